@@ -1,0 +1,50 @@
+-- The tracer: charges of any budgets as whole numbers, below zero included, and the verdict.
+use mathlib.Core.Bool.{Bool, true, false, _&&_, not}
+use mathlib.Core.List.{List, [], _∷_}
+use lib.IntN.{ℤ, pos, negsuc, _+ℤ_, _-ℤ_}
+use lib.Signed.{leZ, nonNeg}
+use Prim.Native.Nat.{ℕ, zero, suc}
+use lib.Dec.{eqb, leb}
+use lib.ListN.{length}
+use Rattle.model.specs.Choice.{pick}
+use Rattle.model.specs.Request.{Request}
+
+-- the smaller of two whole numbers
+abbrev pub minZ : ℤ → ℤ → ℤ
+minZ a b = pick (leZ a b) a b
+
+-- the charge after a frame: the smaller of the capacity and charge before + harvest − budget
+abbrev pub chargeAfter : ℕ → ℤ → ℕ → ℕ → ℤ
+chargeAfter c x h b = minZ (pos c) ((x +ℤ pos h) -ℤ pos b)
+
+-- the charge after each frame
+abbrev pub traceFrom : ℕ → ℤ → List ℕ → List ℕ → List ℤ
+traceFrom c x [] bs = []
+traceFrom c x (h ∷ hs) [] = []
+traceFrom c x (h ∷ hs) (b ∷ bs) = let y = chargeAfter c x h b in y ∷ traceFrom c y hs bs
+
+abbrev pub trace : Request → List ℕ → List ℤ
+trace r bs = traceFrom (r .capacity) (pos (r .start)) (r .harvest) bs
+
+-- the earliest frame below zero among all but the last, the first being frame k; 0 for none
+abbrev pub belowFrom : ℕ → List ℤ → ℕ
+belowFrom k [] = 0
+belowFrom k (z ∷ []) = 0
+belowFrom k (z ∷ (y ∷ zs)) = elim (nonNeg z) [ true ↦ belowFrom (suc k) (y ∷ zs) | false ↦ k ]
+
+-- the last charge, or x where there is no frame
+abbrev pub lastFrom : ℤ → List ℤ → ℤ
+lastFrom x [] = x
+lastFrom x (z ∷ zs) = lastFrom z zs
+
+-- document 01's verdict on a supplied list
+pub data Verdict : Type 0 where
+  below-zero : ℕ → Verdict
+  end-too-low : Verdict
+  is-feasible : Verdict
+
+abbrev pub verdict : Request → List ℕ → Verdict
+verdict r bs =
+    let zs = trace r bs in
+    let k = belowFrom 1 zs in
+    pick (leb 1 k) (below-zero k) (pick (leZ (pos (r .end)) (lastFrom (pos (r .start)) zs)) is-feasible end-too-low)

@@ -1,0 +1,8 @@
+// What a request, a feasible assignment, a plan and a needed capacity are (specs/), and the theorems about them (proofs/).
+// The only thing of code here is the refusal that every entry of the product can answer.
+
+// A refusal: document 01's number and its P.
+pub struct Refusal {
+    pub number: u32,
+    pub p: u64,
+}
