@@ -1,12 +1,12 @@
 -- Refusals 1 to 9 of document 01, each with its P; of a list of refusals the first that holds is given.
-use mathlib.Core.Bool.{Bool, true, false, not, _||_}
-use mathlib.Core.List.{List, [], _∷_}
+use mathlib.Core.Bool.{Bool, true, false, not}
+use mathlib.Core.List.{List, [], _∷_, _++_}
 use Prim.Native.Nat.{ℕ, zero, suc, _+_, _-_}
 use lib.Dec.{eqb, ltb, leb}
 use Rattle.model.specs.declared.Refusal.{Refusal}
 use Rattle.model.specs.Choice.{pick}
 use Rattle.model.specs.Limits.{maxFrames, maxHarvest, maxCapacity}
-use Rattle.model.specs.Request.{Request, total}
+use Rattle.model.specs.Request.{Request, frameCount, total}
 
 -- refusal number n with its P
 abbrev pub refusal : ℕ → ℕ → Refusal
@@ -62,6 +62,45 @@ abbrev pub outOfReach : Request → Refusal
 outOfReach r =
     let reach = r .start + total (r .harvest) in
     pick (ltb reach (r .end)) (refusal 9 (r .end - reach)) none
+
+-- 1, 2: the number of frames
+abbrev pub framesRefusals : ℕ → List Refusal
+framesRefusals k = noFrames k ∷ tooManyFrames k ∷ []
+
+-- 3, 4, 5, 6: the figures of a request
+abbrev pub figureRefusals : Request → List Refusal
+figureRefusals r =
+    overCapacityLimit (r .capacity) ∷ startAboveCapacity r ∷ endAboveCapacity r ∷ harvestOverLimit 1 (r .harvest) ∷ []
+
+-- planning: 1, 2, 7, 3, 4, 5, 6, 9, with a budget list of n entries
+abbrev pub planRefusal : Request → ℕ → Refusal
+planRefusal r n =
+    firstOf (framesRefusals (frameCount r) ++ (wrongLength (frameCount r) n ∷ (figureRefusals r ++ (outOfReach r ∷ []))))
+
+-- the needed capacity: 1, 2, 3 for start or end, 6, 9
+abbrev pub neededRefusal : Request → Refusal
+neededRefusal r =
+    firstOf
+    (framesRefusals (frameCount r)
+    ++ (overCapacityLimit (r .start)
+    ∷ overCapacityLimit (r .end)
+    ∷ harvestOverLimit 1 (r .harvest)
+    ∷ outOfReach r
+    ∷ []))
+
+-- tracing: 1, 2, 7, 3, 4, 5, 6, with a budget list of n and a charge list of m entries
+abbrev pub traceRefusal : Request → ℕ → ℕ → Refusal
+traceRefusal r n m =
+    firstOf
+    (framesRefusals (frameCount r) ++ (wrongLength (frameCount r) n ∷ wrongLength (frameCount r) m ∷ figureRefusals r))
+
+-- grading: 1, 2
+abbrev pub gradeRefusal : ℕ → Refusal
+gradeRefusal k = firstOf (framesRefusals k)
+
+-- starting a shift: 1, 2, 3, 4, 5, 6, 9
+abbrev pub startRefusal : Request → Refusal
+startRefusal r = firstOf (framesRefusals (frameCount r) ++ (figureRefusals r ++ (outOfReach r ∷ [])))
 
 -- what an entry answers: a value, or a refusal. Each answer type of the code has a definition into this
 pub data Outcome (A : Type 0) : Type 0 where
