@@ -1,1 +1,6 @@
 -- The theorems about the model.
+pub mod Order
+pub mod Feasibility
+pub mod Reserve
+pub mod Budget
+pub mod Plan
