@@ -4,3 +4,5 @@ pub mod Feasibility
 pub mod Reserve
 pub mod Budget
 pub mod Plan
+pub mod Integers
+pub mod Tables
