@@ -6,3 +6,4 @@ pub mod Budget
 pub mod Plan
 pub mod Integers
 pub mod Tables
+pub mod Curves
