@@ -1,6 +1,6 @@
 -- A curve whose gains pass one test qualifies as a reward table; its worth is a sum of five products, one for each band.
 use mathlib.Core.Path.{_≡_, refl, ap, sym, _∙_}
-use mathlib.Core.Bool.{Bool, true, false, _&&_, false≢true}
+use mathlib.Core.Bool.{Bool, true, false, _&&_}
 use mathlib.Core.List.{List, [], _∷_}
 use Prim.Native.Nat.{ℕ, zero, suc, _+_, _*_, _-_, _≤_, min}
 use native.Mathlib.Nat.{sub-eq-zero-of-le, mul-zero}
@@ -12,12 +12,7 @@ use Rattle.model.specs.Choice.{pick}
 use Rattle.model.specs.Curves.{Curve, houseCurve, gainAt, unitGain, worth, grade, falls}
 use Rattle.model.specs.Reward.{Qualifies, earned}
 use Rattle.model.proofs.Integers as int
-
--- both tests of a conjunction hold
-both : (s t : Bool) → s && t ≡ true → (s ≡ true) × (t ≡ true)
-both true true e = (refl, refl)
-both true false e = absurd (false≢true e)
-both false t e = absurd (false≢true e)
+use Rattle.model.proofs.Tests.{both}
 
 -- what is left of falling numbers falls
 falls-tail : (g : ℕ) (gs : List ℕ) → falls (g ∷ gs) ≡ true → falls gs ≡ true

@@ -1,7 +1,7 @@
 -- Linear facts of whole numbers by `omega`: a whole number is split into its parts above and below zero, and each operation gets one linear law.
 use mathlib.Core.Path.{_≡_, refl, ap}
 use mathlib.Core.Bool.{Bool, true, false, cond}
-use Prim.Native.Nat.{ℕ, zero, suc, _+_, _-_, _≤_, min}
+use Prim.Native.Nat.{ℕ, zero, suc, _+_, _-_, _≤_, _<_, min}
 use native.Mathlib.Omega.{arith}
 use lib.IntN.{ℤ, pos, negsuc, negℤ, subℕ, _+ℤ_, _-ℤ_}
 use lib.Signed.{_≤ℤ_}
@@ -98,7 +98,15 @@ pos-le m n h = parts-le (pos m) (pos n) (omega arith)
 pub le-pos : (m n : ℕ) → pos m ≤ℤ pos n → m ≤ n
 le-pos m n h = omega (arith, le-parts (pos m) (pos n) h)
 
--- differences of natural numbers, by sums
+-- a difference of natural numbers that is not below zero
+pub minus-pos : (a b : ℕ) → b ≤ a → pos a -ℤ pos b ≡ pos (a - b)
+minus-pos a b h = parts-eq (pos a -ℤ pos b) (pos (a - b)) (omega (arith, minus-parts (pos a) (pos b)))
+
+-- and one that is
+pub minus-neg : (a b : ℕ) → a < b → pos a -ℤ pos b ≡ negsuc (b - suc a)
+minus-neg a b h = parts-eq (pos a -ℤ pos b) (negsuc (b - suc a)) (omega (arith, minus-parts (pos a) (pos b)))
+
+-- differences of natural numbers are ordered as sums
 pub pos-minus-le : (a b c d : ℕ) → a + d ≤ c + b → (pos a -ℤ pos b) ≤ℤ (pos c -ℤ pos d)
 pos-minus-le a b c d h =
     parts-le (pos a -ℤ pos b) (pos c -ℤ pos d) (omega (arith, minus-parts (pos a) (pos b), minus-parts (pos c) (pos d)))

@@ -4,6 +4,8 @@ pub mod Feasibility
 pub mod Reserve
 pub mod Budget
 pub mod Plan
+pub mod Tests
 pub mod Integers
 pub mod Tables
 pub mod Curves
+pub mod Trace

@@ -1,0 +1,115 @@
+-- The tracer's verdict is Definition 1, and the traced charges of a feasible list are the charges of the frame rule.
+use mathlib.Core.Path.{_≡_, refl, ap, sym, _∙_}
+use mathlib.Core.Logic.{_↔_}
+use mathlib.Core.Bool.{Bool, true, false, _&&_, not, false≢true}
+use mathlib.Core.List.{List, [], _∷_, map}
+use Prim.Native.Nat.{ℕ, suc, _+_, _-_, _≤_, _<_, min}
+use native.Mathlib.Omega.{arith}
+use lib.ListN.{length}
+use lib.IntN.{ℤ, pos, negsuc}
+use lib.Signed.{leZ}
+use lib.Dec.{leb}
+use borrow.Author.Tests.{leb-true, leb-false, le-leb}
+use Rattle.model.specs.Choice.{pick}
+use Rattle.model.specs.Request.{Request, frameCount}
+use Rattle.model.specs.Charge.{feasibleFrom, feasible, frameEnd, chargesFrom, charges}
+use Rattle.model.specs.Trace.{minZ, chargeAfter, traceFrom, trace, belowFrom, lastFrom, below-zero, end-too-low, is-feasible, verdict}
+use Rattle.model.proofs.Integers as int
+use Rattle.model.proofs.Tests.{both}
+
+-- the smaller of two natural numbers, by which it is
+min-by : (a b : ℕ) (t : Bool) → leb a b ≡ t → pick t (pos a) (pos b) ≡ pos (min a b)
+min-by a b true e = let l = leb-true a b e in ap pos (omega arith)
+min-by a b false e = let l = leb-false a b e in ap pos (omega arith)
+
+-- the smaller whole number of two natural numbers is the smaller natural number
+min-pos : (a b : ℕ) → minZ (pos a) (pos b) ≡ pos (min a b)
+min-pos a b = min-by a b (leb a b) refl
+
+-- a budget within what is at hand leaves the charge of the frame rule
+after-within : (c x h b : ℕ) → b ≤ x + h → chargeAfter c (pos x) h b ≡ pos (frameEnd c x h b .charge)
+after-within c x h b l = ap (minZ (pos c)) (int.minus-pos (x + h) b l) ∙ min-pos c (x + h - b)
+
+-- a budget above it leaves a charge below zero
+after-over : (c x h b : ℕ) → x + h < b → chargeAfter c (pos x) h b ≡ negsuc (b - suc (x + h))
+after-over c x h b l = ap (minZ (pos c)) (int.minus-neg (x + h) b l)
+
+-- the traced charges are accepted: none but the last is below zero, and the last is at least the end charge e; x is the charge before them
+abbrev accepted : ℕ → ℕ → ℤ → List ℤ → Bool
+accepted k e x zs = not (leb 1 (belowFrom k zs)) && leZ (pos e) (lastFrom x zs)
+
+-- a charge not below zero is passed over
+accepted-pos : (k e y : ℕ) (x : ℤ) (zs : List ℤ) → accepted k e x (pos y ∷ zs) ≡ accepted (suc k) e (pos y) zs
+accepted-pos k e y x [] = refl
+accepted-pos k e y x (z ∷ zs) = refl
+
+-- a charge below zero is not accepted
+accepted-neg : (k e n : ℕ) (x : ℤ) (zs : List ℤ) → accepted (suc k) e x (negsuc n ∷ zs) ≡ false
+accepted-neg k e n x [] = refl
+accepted-neg k e n x (z ∷ zs) = ap (λ t. not t && leZ (pos e) (lastFrom z zs)) (le-leb 1 (suc k) (omega arith))
+
+-- one frame, by whether its budget is within what is at hand
+frame-by : (c e x k h b : ℕ) (hs bs : List ℕ) →
+    ((y : ℕ) → feasibleFrom c e y hs bs ≡ accepted (suc (suc k)) e (pos y) (traceFrom c (pos y) hs bs)) →
+    (t : Bool) → leb b (x + h) ≡ t →
+    (t && feasibleFrom c e (frameEnd c x h b .charge) hs bs) ≡ accepted (suc k) e (pos x) (traceFrom c (pos x) (h ∷ hs) (b ∷ bs))
+frame-by c e x k h b hs bs i true p =
+    let y = frameEnd c x h b .charge in
+    i y
+    ∙ sym (accepted-pos (suc k) e y (pos x) (traceFrom c (pos y) hs bs))
+    ∙ sym (ap (λ z. accepted (suc k) e (pos x) (z ∷ traceFrom c z hs bs)) (after-within c x h b (leb-true b (x + h) p)))
+frame-by c e x k h b hs bs i false p =
+    let n = b - suc (x + h) in
+    sym
+    (ap (λ z. accepted (suc k) e (pos x) (z ∷ traceFrom c z hs bs)) (after-over c x h b (leb-false b (x + h) p))
+    ∙ accepted-neg k e n (pos x) (traceFrom c (negsuc n) hs bs))
+
+-- Definition 1 is the test of the traced charges
+feasible-is : (c e x k : ℕ) (hs bs : List ℕ) → length bs ≡ length hs →
+    feasibleFrom c e x hs bs ≡ accepted (suc k) e (pos x) (traceFrom c (pos x) hs bs)
+feasible-is c e x k [] [] l = refl
+feasible-is c e x k [] (b ∷ bs) l = absurd (omega arith)
+feasible-is c e x k (h ∷ hs) [] l = absurd (omega arith)
+feasible-is c e x k (h ∷ hs) (b ∷ bs) l =
+    frame-by c e x k h b hs bs (λ y. feasible-is c e y (suc k) hs bs (omega arith)) (leb b (x + h)) refl
+
+-- the verdict by its two tests
+verdict-by : (k : ℕ) (s t : Bool) → (pick s (below-zero k) (pick t is-feasible end-too-low) ≡ is-feasible) ↔ ((not s && t) ≡ true)
+verdict-by k true t = (λ e. cc, λ e. absurd (false≢true e))
+verdict-by k false true = (λ e. refl, λ e. refl)
+verdict-by k false false = (λ e. cc, λ e. absurd (false≢true e))
+
+-- the verdict is "feasible" exactly where the budgets are
+pub verdict-feasible : (r : Request) (bs : List ℕ) → length bs ≡ frameCount r → (verdict r bs ≡ is-feasible) ↔ (feasible r bs ≡ true)
+verdict-feasible r bs l =
+    let zs = trace r bs in
+    let v = verdict-by (belowFrom 1 zs) (leb 1 (belowFrom 1 zs)) (leZ (pos (r .end)) (lastFrom (pos (r .start)) zs)) in
+    let f = feasible-is (r .capacity) (r .end) (r .start) 0 (r .harvest) bs l in
+    (λ e. f ∙ v .0 e, λ e. v .1 (sym f ∙ e))
+
+-- the charges of budgets feasible from charge x
+trace-from : (c e x : ℕ) (hs bs : List ℕ) → feasibleFrom c e x hs bs ≡ true → traceFrom c (pos x) hs bs ≡ map pos (chargesFrom c x hs bs)
+trace-from c e x [] bs f = refl
+trace-from c e x (h ∷ hs) [] f = refl
+trace-from c e x (h ∷ hs) (b ∷ bs) f =
+    let y = frameEnd c x h b .charge in
+    let p = both (leb b (x + h)) (feasibleFrom c e y hs bs) f in
+    ap (λ z. z ∷ traceFrom c z hs bs) (after-within c x h b (leb-true b (x + h) (p .0)))
+    ∙ ap (λ zs. pos y ∷ zs) (trace-from c e y hs bs (p .1))
+
+-- the traced charges of feasible budgets are their charges
+pub trace-charges : (r : Request) (bs : List ℕ) → feasible r bs ≡ true → trace r bs ≡ map pos (charges r bs)
+trace-charges r bs f = trace-from (r .capacity) (r .end) (r .start) (r .harvest) bs f
+
+-- budgets feasible from charge x are one for each harvest
+length-from : (c e x : ℕ) (hs bs : List ℕ) → feasibleFrom c e x hs bs ≡ true → length bs ≡ length hs
+length-from c e x [] [] f = refl
+length-from c e x [] (b ∷ bs) f = absurd (false≢true f)
+length-from c e x (h ∷ hs) [] f = absurd (false≢true f)
+length-from c e x (h ∷ hs) (b ∷ bs) f =
+    let y = frameEnd c x h b .charge in
+    ap suc (length-from c e y hs bs (both (leb b (x + h)) (feasibleFrom c e y hs bs) f .1))
+
+-- feasible budgets are one for each frame
+pub feasible-length : (r : Request) (bs : List ℕ) → feasible r bs ≡ true → length bs ≡ frameCount r
+feasible-length r bs f = length-from (r .capacity) (r .end) (r .start) (r .harvest) bs f
