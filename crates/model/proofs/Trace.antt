@@ -1,13 +1,13 @@
--- The tracer's verdict is Definition 1, and the traced charges of a feasible list are the charges of the frame rule.
+-- The tracer's verdict is Definition 1, the frame it names is the earliest below zero, and the traced charges of a feasible list are the charges of the frame rule.
 use mathlib.Core.Path.{_≡_, refl, ap, sym, _∙_}
 use mathlib.Core.Logic.{_↔_}
 use mathlib.Core.Bool.{Bool, true, false, _&&_, not, false≢true}
 use mathlib.Core.List.{List, [], _∷_, map}
-use Prim.Native.Nat.{ℕ, suc, _+_, _-_, _≤_, _<_, min}
+use Prim.Native.Nat.{ℕ, zero, suc, _+_, _-_, _≤_, _<_, min}
 use native.Mathlib.Omega.{arith}
-use lib.ListN.{length}
+use lib.ListN.{length, getD}
 use lib.IntN.{ℤ, pos, negsuc}
-use lib.Signed.{leZ}
+use lib.Signed.{leZ, nonNeg}
 use lib.Dec.{leb}
 use borrow.Author.Tests.{leb-true, leb-false, le-leb}
 use Rattle.model.specs.Choice.{pick}
@@ -113,3 +113,42 @@ length-from c e x (h ∷ hs) (b ∷ bs) f =
 -- feasible budgets are one for each frame
 pub feasible-length : (r : Request) (bs : List ℕ) → feasible r bs ≡ true → length bs ≡ frameCount r
 feasible-length r bs f = length-from (r .capacity) (r .end) (r .start) (r .harvest) bs f
+
+-- the charge at place i is below zero, none before it is, and it is not the last
+pub record EarliestBelow (i : ℕ) (zs : List ℤ) : Type 0 where
+  pub not-last : suc i < length zs
+  pub below : nonNeg (getD zs i (pos 0)) ≡ false
+  pub before : (j : ℕ) → j < i → nonNeg (getD zs j (pos 0)) ≡ true
+
+-- a charge not below zero in front moves the place by one
+earliest-after : (i y : ℕ) (zs : List ℤ) → EarliestBelow i zs → EarliestBelow (suc i) (pos y ∷ zs)
+earliest-after i y zs w = record { not-last = omega arith; below = w .below; before = earlier }
+  where
+    earlier : (j : ℕ) → j < suc i → nonNeg (getD (pos y ∷ zs) j (pos 0)) ≡ true
+    earlier zero h = refl
+    earlier (suc j) h = w .before j (omega arith)
+
+-- a frame that the scan from frame k finds is at some place i
+below-at : (k n : ℕ) (zs : List ℤ) → belowFrom k zs ≡ suc n → (i : ℕ) × (suc n ≡ k + i) × EarliestBelow i zs
+below-at k n [] e = absurd (omega arith)
+below-at k n (z ∷ []) e = absurd (omega arith)
+below-at k n (negsuc m ∷ (z ∷ zs)) e = (0, omega arith, record { not-last = omega arith; below = refl; before = λ j h. absurd (omega arith) })
+below-at k n (pos y ∷ (z ∷ zs)) e =
+    let w = below-at (suc k) n (z ∷ zs) e in
+    (suc (w .0), omega (arith, w .1), earliest-after (w .0) y (z ∷ zs) (w .2))
+
+-- the frame of the verdict, by its two tests
+frame-of : (k n : ℕ) (t : Bool) (s : Bool) → leb 1 k ≡ s → pick s (below-zero k) (pick t is-feasible end-too-low) ≡ below-zero n → (k ≡ n) × (1 ≤ k)
+frame-of k n t true p e = (cc, leb-true 1 k p)
+frame-of k n true false p e = absurd (let z : _≡_ {A = ℕ} 0 1 = cc in omega arith)
+frame-of k n false false p e = absurd (let z : _≡_ {A = ℕ} 0 1 = cc in omega arith)
+
+-- a verdict that names a frame names the earliest, the last left out, whose charge is below zero
+pub verdict-below : (r : Request) (bs : List ℕ) (n : ℕ) → verdict r bs ≡ below-zero n → (i : ℕ) × (n ≡ suc i) × EarliestBelow i (trace r bs)
+verdict-below r bs n e =
+    let zs = trace r bs in
+    let k = belowFrom 1 zs in
+    let f = frame-of k n (leZ (pos (r .end)) (lastFrom (pos (r .start)) zs)) (leb 1 k) refl e in
+    let p : k ≡ suc (n - 1) = omega arith in
+    let w = below-at 1 (n - 1) zs p in
+    (w .0, omega (arith, w .1), w .2)
