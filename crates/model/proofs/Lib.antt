@@ -1,11 +1,12 @@
 -- The theorems about the model.
 pub mod Order
-pub mod Feasibility
-pub mod Reserve
-pub mod Budget
-pub mod Plan
 pub mod Tests
 pub mod Integers
 pub mod Tables
 pub mod Curves
 pub mod Trace
+pub mod Feasibility
+pub mod Reserve
+pub mod Budget
+pub mod Plan
+pub mod Lowest
