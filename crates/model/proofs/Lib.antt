@@ -10,3 +10,5 @@ pub mod Reserve
 pub mod Budget
 pub mod Plan
 pub mod Lowest
+pub mod Requirement
+pub mod Ceilings
