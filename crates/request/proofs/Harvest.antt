@@ -1,0 +1,101 @@
+-- Refusal 6 of a list one frame at a time, what its absence says of every harvest, and the sum of a list.
+use mathlib.Core.Path.{_≡_, refl, sym, ap, _∙_}
+use mathlib.Core.Bool.{Bool, true, false, false≢true}
+use mathlib.Core.List.{List, [], _∷_}
+use Prim.Native.Nat.{ℕ, zero, suc, _+_, _-_, _*_, _≤_, _<_}
+use native.Mathlib.Omega.{arith}
+use native.Mathlib.Numerals.{add-one}
+use lib.Dec.{ltb}
+use lib.ListN.{length, getD, drop, drop-of-length-le}
+use lib.Seq.{drop-cons}
+use borrow.Author.Tests.{lt-ltb, le-ltb, ltb-false}
+use Rattle.model.specs.declared.Refusal.{Refusal}
+use Rattle.model.specs.Limits.{maxHarvest}
+use Rattle.model.specs.Choice.{pick}
+use Rattle.model.specs.Request.{Request, total, withCapacity}
+use Rattle.model.specs.Refusals.{refusal, none, isNone, harvestOverLimit, outOfReach}
+
+-- the first frame decides by its test
+by-test : (k h : ℕ) (hs : List ℕ) (t : Bool) → ltb maxHarvest h ≡ t
+    → harvestOverLimit k (h ∷ hs) ≡ elim t as (λ _. Refusal) [ true ↦ refusal 6 k | false ↦ harvestOverLimit (suc k) hs ]
+by-test k h hs t e = ap (λ (u : Bool). elim u as (λ _. Refusal) [ true ↦ refusal 6 k | false ↦ harvestOverLimit (suc k) hs ]) e
+
+-- a harvest over the limit is the one refused
+pub over-here : (k i : ℕ) (hs : List ℕ) → i < length hs → maxHarvest < getD hs i 0 → harvestOverLimit k (drop i hs) ≡ refusal 6 k
+over-here k i hs l b =
+    ap (harvestOverLimit k) (drop-cons hs i 0 l)
+    ∙ by-test k (getD hs i 0) (drop (suc i) hs) true (lt-ltb maxHarvest (getD hs i 0) b)
+
+-- a harvest within the limit is passed over
+pub over-later : (k i : ℕ) (hs : List ℕ) → i < length hs → getD hs i 0 ≤ maxHarvest
+    → harvestOverLimit (k + (i + 1)) (drop (i + 1) hs) ≡ harvestOverLimit (k + i) (drop i hs)
+over-later k i hs l b =
+    let n : k + (i + 1) ≡ suc (k + i) = omega arith in
+    rw (n, add-one i) (sym
+    (ap (harvestOverLimit (k + i)) (drop-cons hs i 0 l)
+    ∙ by-test (k + i) (getD hs i 0) (drop (suc i) hs) false (le-ltb maxHarvest (getD hs i 0) b)))
+
+-- past the last frame nothing is refused
+pub over-never : (k i : ℕ) (hs : List ℕ) → i ≡ length hs → harvestOverLimit k (drop i hs) ≡ none
+over-never k i hs e = ap (harvestOverLimit k) (drop-of-length-le hs {i = i} (omega arith))
+
+-- no refusal 6 has P 0
+pub over-none : (k : ℕ) (hs : List ℕ) → isNone (harvestOverLimit k hs) ≡ true → harvestOverLimit k hs ≡ none
+over-none k [] e = refl
+over-none k (h ∷ hs) e = go (ltb maxHarvest h) e (over-none (suc k) hs)
+  where
+    go : (t : Bool)
+        → isNone (elim t as (λ _. Refusal) [ true ↦ refusal 6 k | false ↦ harvestOverLimit (suc k) hs ]) ≡ true
+        → (isNone (harvestOverLimit (suc k) hs) ≡ true → harvestOverLimit (suc k) hs ≡ none)
+        → elim t as (λ _. Refusal) [ true ↦ refusal 6 k | false ↦ harvestOverLimit (suc k) hs ] ≡ none
+    go true q ih = absurd (false≢true q)
+    go false q ih = ih q
+
+-- where refusal 6 does not hold, every harvest is within the limit
+pub harvest-small : (k : ℕ) (hs : List ℕ) → isNone (harvestOverLimit k hs) ≡ true → (i : ℕ) → getD hs i 0 ≤ maxHarvest
+harvest-small k [] e i = omega arith
+harvest-small k (h ∷ hs) e i = go (ltb maxHarvest h) refl e (harvest-small (suc k) hs) i
+  where
+    go : (t : Bool) → ltb maxHarvest h ≡ t
+        → isNone (elim t as (λ _. Refusal) [ true ↦ refusal 6 k | false ↦ harvestOverLimit (suc k) hs ]) ≡ true
+        → (isNone (harvestOverLimit (suc k) hs) ≡ true → (j : ℕ) → getD hs j 0 ≤ maxHarvest)
+        → (j : ℕ) → getD (h ∷ hs) j 0 ≤ maxHarvest
+    go true q f ih j = absurd (false≢true f)
+    go false q f ih zero = ltb-false maxHarvest h q
+    go false q f ih (suc j) = ih f j
+
+-- the sum of harvests within the limit
+pub total-small : (m : ℕ) (hs : List ℕ) → ((i : ℕ) → getD hs i 0 ≤ m) → total hs ≤ m * length hs
+total-small m [] h = omega arith
+total-small m (x ∷ hs) h = let r = total-small m hs (λ i. h (suc i)) in omega (arith, h 0)
+
+-- one more entry of a list summed
+pub total-more : (i : ℕ) (hs : List ℕ) → i < length hs → total (drop i hs) ≡ getD hs i 0 + total (drop (i + 1) hs)
+total-more i hs l = rw (add-one i) (ap total (drop-cons hs i 0 l))
+
+-- every entry summed
+pub total-over : (i : ℕ) (hs : List ℕ) → length hs ≤ i → total (drop i hs) ≡ 0
+total-over i hs l = ap total (drop-of-length-le hs {i = i} l)
+
+-- where what is summed so far reaches the end charge, refusal 9 does not hold
+pub reached : (c : ℕ) (r : Request) (x rest : ℕ) → x + rest ≡ r .start + total (r .harvest) → r .end ≤ x → none ≡ outOfReach (withCapacity r c)
+reached c r x rest e l = sym (ap (λ (t : Bool). pick t (refusal 9 (r .end - (r .start + total (r .harvest)))) none)
+    (le-ltb (r .start + total (r .harvest)) (r .end) (omega arith)))
+
+-- where the whole sum is below the end charge, refusal 9 holds
+pub missed : (c : ℕ) (r : Request) (x : ℕ) → x ≡ r .start + total (r .harvest) → x < r .end → refusal 9 (r .end - x) ≡ outOfReach (withCapacity r c)
+missed c r x e l =
+    ap (λ (y : ℕ). refusal 9 (r .end - y)) e
+    ∙ sym (ap (λ (t : Bool). pick t (refusal 9 (r .end - (r .start + total (r .harvest)))) none)
+    (lt-ltb (r .start + total (r .harvest)) (r .end) (omega arith)))
+
+-- no refusal 9 has P 0
+pub reach-none : (r : Request) → isNone (outOfReach r) ≡ true → outOfReach r ≡ none
+reach-none r e = go (ltb (r .start + total (r .harvest)) (r .end)) e
+  where
+    p : ℕ
+    p = r .end - (r .start + total (r .harvest))
+
+    go : (t : Bool) → isNone (pick t (refusal 9 p) none) ≡ true → pick t (refusal 9 p) none ≡ none
+    go true q = absurd (false≢true q)
+    go false q = refl

@@ -1,0 +1,44 @@
+// Refusal 9: whether start plus all harvest reaches the end charge.
+ghost use mathlib.Core.Path.{_≡_};
+ghost use Prim.Native.Nat.{ℕ, _<_, _^_};
+ghost use lib.ListN.{length};
+ghost use Rattle.model.specs.Request.{request, total};
+ghost use Rattle.model.specs.Refusals.{outOfReach};
+
+// The sum of a list.
+pub fn sum(list: &[u32]) -> u64
+    requires { ⌜ length (now list) < 2 ^ 31 ⌝ }
+    ensures is { λ r. ⌜ r ≡ total (now (list .entry)) ⌝ }
+    ensures below { λ r. ⌜ r < 2 ^ 63 ⌝ }
+{
+    let mut sum: u64 = 0;
+    let mut i: usize = 0;
+    while i < list.len() {
+        sum += list[i] as u64;
+        i += 1;
+    }
+    sum
+}
+
+// Refusal 9, whose P is the amount missing. The sum stops where it reaches the end charge.
+pub fn reach_refusal(start: u32, end: u32, harvest: &[u32]) -> model::Refusal
+    ensures { λ r. ⌜ ((c : ℕ) → r ≡ outOfReach (request c start end (now (harvest .entry)))) ⌝ }
+{
+    let goal = end as u64;
+    let mut reach = start as u64;
+    let mut i: usize = 0;
+    loop {
+        if reach >= goal {
+            return model::Refusal { number: 0, p: 0 };
+        }
+        if i == harvest.len() {
+            break;
+        }
+        reach += harvest[i] as u64;
+        i += 1;
+    }
+    model::Refusal {
+        number: 9,
+        p: goal - reach,
+    }
+}
