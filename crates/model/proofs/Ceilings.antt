@@ -172,3 +172,69 @@ open-feasible e y z (f ∷ fs) (g ∷ gs) (b ∷ bs) s o h k =
     open-numbers : (y z i j m n d d′ b : ℕ) → z ≤ y → j ≡ i → d′ ≡ d → y + i ≤ m → d′ + b ≤ min n (z + j) →
         (d + b ≤ min m (y + i)) × (min n (z + j) - (d′ + b) ≤ min m (y + i) - (d + b)) × (min m (y + i) - (d + b) ≤ y + i)
     open-numbers y z i j m n d d′ b h p q o k = (omega arith, omega arith, omega arith)
+
+-- One frame of an open store: b is the plan's budget from charge y, c that of a list that serves most from z ≥ y.
+module _ (e L y z : ℕ) (f : Frame) (fs : List Frame) (c : ℕ) (cs : List ℕ) (w : MostsWithin L (f ∷ fs)) (h : y ≤ z) (o : Open z (f ∷ fs))
+    (k : Feasible e y (f ∷ fs) (plan e y (f ∷ fs))) (q : Feasible e z (f ∷ fs) (c ∷ cs)) where
+  -- the plan requires no more than the other list before the frame's inflow is taken off
+  requires-less : served L (plan e y (f ∷ fs)) + z ≤ served L (c ∷ cs) + y →
+      f .drain + budget e y f fs + requirement e fs (plan e (left f y (budget e y f fs)) fs) ≤ f .drain + c + requirement e fs cs
+  unfolding plan requirement
+  requires-less s =
+      let b = budget e y f fs in
+      let bs = plan e (left f y b) fs in
+      let g = feasible-fits e z (f ∷ fs) (c ∷ cs) q .0 in
+      let n = f .drain + c + requirement e fs cs in
+      sub-zero (f .drain + b + requirement e fs bs) n
+      (least-requirement e L (y + f .inflow) n (filled f ∷ fs) (b ∷ bs) (c ∷ cs) w (omega (arith, o .0), open-less (y + f .inflow + 0) (z + f .inflow) fs (omega arith) (o .1)) (fill-feasible e y f fs b bs k) (fill-most e L y f fs (b ∷ bs) (plan-most e y (f ∷ fs))) (fits-feasible e n (filled f ∷ fs) (c ∷ cs) (record { low = g .0 .low; high = g .0 .high; holds = g .0 .holds }, g .1) (omega arith)) (omega arith))
+    where
+      sub-zero : (a b : ℕ) → a - 0 ≤ b → a ≤ b
+      sub-zero a b p = omega arith
+
+  -- what the two have drawn and carry on stays in balance
+  balance-on : served L (plan e y (f ∷ fs)) + z ≤ served L (c ∷ cs) + y →
+      served L (plan e (left f y (budget e y f fs)) fs) + left f z c ≤ served L cs + left f y (budget e y f fs)
+  unfolding plan served
+  balance-on s =
+      numbers (budget e y f fs) (f .most) (f .drain) (f .inflow) (f .ceiling) (served L (plan e (left f y (budget e y f fs)) fs)) (served L cs) (k .0 .high) (q .0 .high) (w .0) (k .0 .have) (q .0 .have) h (o .0) s
+    where
+      plain : (b c d i s s′ : ℕ) → d + b ≤ y + i → d + c ≤ z + i → b + s + z ≤ c + s′ + y → s + (z + i - (d + c)) ≤ s′ + (y + i - (d + b))
+      plain b c d i s s′ p q r = omega arith
+
+      numbers : (b hi d i m s s′ : ℕ) → b ≤ hi → c ≤ hi → hi ≤ L → d + b ≤ min m (y + i) → d + c ≤ min m (z + i) → y ≤ z → z + i ≤ m →
+          min b L + s + z ≤ min c L + s′ + y → s + (min m (z + i) - (d + c)) ≤ s′ + (min m (y + i) - (d + b))
+      numbers b hi d i m s s′ p q w u v h o r =
+          let ry : min m (y + i) ≡ y + i = omega arith in
+          let rz : min m (z + i) ≡ z + i = omega arith in
+          let mb : min b L ≡ b = omega arith in
+          let mc : min c L ≡ c = omega arith in
+          rw (ry, rz) (plain b c d i s s′ (rw ry at u) (rw rz at v) (rw (mb, mc) at r))
+
+-- other ceilings hold whatever the plan requires, if they hold what a list requires that serves as much
+fits-open : (e L y z : ℕ) (fs gs : List Frame) (cs : List ℕ) → OtherCeilings fs gs → MostsWithin L fs → y ≤ z → Open z fs →
+    Feasible e y fs (plan e y fs) → Feasible e z fs cs → MostServed e z fs cs → served L (plan e y fs) + z ≤ served L cs + y →
+    Fits e gs cs → Fits e gs (plan e y fs)
+unfolding plan
+fits-open e L y z [] [] cs s w h o k q m t g = tt
+fits-open e L y z [] (g₁ ∷ gs) cs s w h o k q m t g = absurd s
+fits-open e L y z (f ∷ fs) [] cs s w h o k q m t g = absurd s
+fits-open e L y z (f ∷ fs) (g₁ ∷ gs) [] s w h o k q m t g = absurd q
+fits-open e L y z (f ∷ fs) (g₁ ∷ gs) (c ∷ cs) s w h o k q m t g =
+    let b = budget e y f fs in
+    let bs = plan e (left f y b) fs in
+    let low = lowest-first e y z f fs c cs h (q .0) (q .1) m in
+    let less = requires-less e L y z f fs c cs w h o k q t in
+    (record { low = rw (s .0 .same-least) (k .0 .low); high = rw (s .0 .same-most) (k .0 .high); holds = holds-less (g₁ .drain) (f .drain) b c (g₁ .ceiling) (requirement e gs bs) (requirement e fs bs) (requirement e gs cs) (requirement e fs cs) (s .0 .same-drain) (requirement-same e fs gs bs (s .1)) (requirement-same e fs gs cs (s .1)) less (g .0 .holds) }, fits-open e L (left f y b) (left f z c) fs gs cs (s .1) (w .1) low (open-less (left f z c) (z + f .inflow) fs (omega arith) (o .1)) (k .1) (q .1) (most-rest e z f fs c cs (q .0) m) (balance-on e L y z f fs c cs w h o k q t) (g .1))
+  where
+    holds-less : (d d′ b c m q q′ r r′ : ℕ) → d ≡ d′ → q ≡ q′ → r ≡ r′ → d′ + b + q′ ≤ d′ + c + r′ → d + c + r ≤ m → d + b + q ≤ m
+    holds-less d d′ b c m q q′ r r′ p u v h k = omega arith
+
+-- ceilings under which something serves as much as the open plan at every level let the open plan be drawn
+pub ceilings-serve : (e L y : ℕ) (fs gs : List Frame) (cs : List ℕ) → OtherCeilings fs gs → MostsWithin L fs → Open y fs →
+    Feasible e y gs cs → ((l : ℕ) → served l (plan e y fs) ≤ served l cs) → Feasible e y gs (plan e y fs)
+ceilings-serve e L y fs gs cs s w o q h =
+    let k = open-feasible e y y fs gs cs s o (le-refl y) q in
+    let p = plan-best e y 0 fs cs k .0 in
+    fits-feasible e y gs (plan e y fs)
+    (fits-open e L y y fs gs cs s w (le-refl y) o p k (λ ds d l. at-most (served l (plan e y fs)) (served l cs) (served l ds) (h l) (plan-best e y l fs ds d .1)) (omega (arith, h L)) (feasible-fits e y gs cs q .0))
+    (rw (requirement-same e fs gs (plan e y fs) s) (feasible-fits e y fs (plan e y fs) p .1))
