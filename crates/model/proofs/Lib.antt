@@ -12,3 +12,6 @@ pub mod Plan
 pub mod Lowest
 pub mod Requirement
 pub mod Ceilings
+pub mod Bridge
+pub mod Reach
+pub mod Request

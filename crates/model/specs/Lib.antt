@@ -9,3 +9,4 @@ pub mod Reward
 pub mod Curves
 pub mod Frames
 pub mod Plan
+pub mod Demands

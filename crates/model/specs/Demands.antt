@@ -1,0 +1,38 @@
+-- Demands 2 and 3 as statements about a request, whatever its size. They are proved in proofs/Request.antt and proofs/Needed.antt.
+use mathlib.Core.Path.{_≡_}
+use mathlib.Core.Bool.{Bool, true, false}
+use mathlib.Core.List.{List, [], _∷_}
+use lib.IntN.{ℤ}
+use lib.ListN.{getD}
+use Prim.Native.Nat.{ℕ, _≤_, _<_}
+use Rattle.model.specs.Request.{Request, mostEnergy, withCapacity}
+use Rattle.model.specs.Charge.{feasible, charges, feasibleUnlimited}
+use Rattle.model.specs.Reward.{Qualifies, BestForAll, IsPlan, BestReward, IsNeeded}
+use Rattle.model.specs.Frames.{served}
+use Rattle.model.specs.Plan.{planOf, neededOf}
+
+-- for every request with start ≤ capacity and end ≤ capacity
+pub record PlanDemand (r : Request) : Type 0 where
+  -- something is feasible exactly when start plus all harvest reaches the end charge
+  pub within-reach : r .end ≤ mostEnergy r → (bs : List ℕ) × (feasible r bs ≡ true)
+  pub out-of-reach : mostEnergy r < r .end → (bs : List ℕ) → feasible r bs ≡ false
+  -- then planOf is the plan: feasible, best for every qualifying table, and it takes more at the first difference
+  pub is-plan : r .end ≤ mostEnergy r → IsPlan r (planOf r)
+  -- no other list is
+  pub only-plan : (bs : List ℕ) → IsPlan r bs → bs ≡ planOf r
+  -- counting each budget up to a level, no feasible list serves more
+  pub serves-most : (bs : List ℕ) → feasible r bs ≡ true → (l : ℕ) → served l bs ≤ served l (planOf r)
+  -- among the lists best for every table it has the lowest charge after every frame
+  pub lowest-charges : (bs : List ℕ) → feasible r bs ≡ true → BestForAll r bs → (i : ℕ) →
+      getD (charges r (planOf r)) i 0 ≤ getD (charges r bs) i 0
+
+-- for every request whose end is within reach; the capacity of the request plays no part
+pub record NeededDemand (r : Request) : Type 0 where
+  -- neededOf is the least capacity, at least start and end, that serves every table as unlimited storage does
+  pub is-needed : IsNeeded r (neededOf r)
+  -- no other number is
+  pub only-needed : (c : ℕ) → IsNeeded r c → c ≡ neededOf r
+  -- with unlimited storage every qualifying table has a best reward
+  pub best-exists : (f : ℕ → ℤ) → Qualifies f (mostEnergy r) → (v : ℤ) × BestReward (feasibleUnlimited r) f v
+  -- unlimited storage is every capacity that is large enough, not one particular number
+  pub unlimited : (c : ℕ) → mostEnergy r ≤ c → (bs : List ℕ) → feasible (withCapacity r c) bs ≡ feasibleUnlimited r bs
