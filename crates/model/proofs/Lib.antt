@@ -15,3 +15,4 @@ pub mod Ceilings
 pub mod Bridge
 pub mod Reach
 pub mod Request
+pub mod Needed
