@@ -16,3 +16,4 @@ pub mod Bridge
 pub mod Reach
 pub mod Request
 pub mod Needed
+pub mod Peak

@@ -110,7 +110,7 @@ module _ (r : Request) (reach : r .end ≤ mostEnergy r) where
   open-plan-best f w = record { reached = (openPlan r, open-plan-unlimited, refl); highest = λ bs k. open-plan-earns f w bs k }
 
   -- the open plan over the frames of its capacity
-  open-plan-frames : Feasible (r .end) (r .start) (framesOf (boundless r) (mostEnergy r) (r .harvest)) (openPlan r)
+  pub open-plan-frames : Feasible (r .end) (r .start) (framesOf (boundless r) (mostEnergy r) (r .harvest)) (openPlan r)
   open-plan-frames =
       feasible-frames (boundless r) (r .end) (mostEnergy r) (omega arith) (r .start) (r .start) (r .harvest) (openPlan r) (omega arith) (omega arith)
       (to-big (openPlan r) open-plan-unlimited)

@@ -1,0 +1,81 @@
+-- Without limit the plan requires, after each frame, just the charge that it carries; so the needed capacity is a highest charge.
+use mathlib.Core.Path.{_≡_, refl, ap₂, _∙_}
+use mathlib.Core.Logic.{_⊎_, ⊎-elim}
+use mathlib.Core.List.{List, [], _∷_}
+use Prim.Native.Nat.{ℕ, zero, suc, _+_, _-_, _≤_, _<_, min, max}
+use native.Mathlib.Nat.{le-refl}
+use native.Mathlib.Omega.{arith}
+use Rattle.model.specs.Request.{Request, total, mostEnergy}
+use Rattle.model.specs.Frames.{Frame, room, left, Allowed, Feasible, reserve, budget, plan, requirement, peak}
+use Rattle.model.specs.Plan.{frameOf, framesOf, boundless, openPlan, neededOf}
+use Rattle.model.proofs.Order.{le-or-lt}
+use Rattle.model.proofs.Budget.{IsLargest, budget-is}
+use Rattle.model.proofs.Lowest.{carried}
+use Rattle.model.proofs.Needed.{open-plan-frames}
+
+-- the greatest number of a list, 0 for none
+abbrev pub greatest : List ℕ → ℕ
+greatest [] = 0
+greatest (x ∷ xs) = max x (greatest xs)
+
+-- the last frame leaves the end charge and no more
+last-left : (c m e y h : ℕ) → y ≤ c → y + h ≤ m → e ≤ left (frameOf c m h) y (budget e y (frameOf c m h) []) →
+    left (frameOf c m h) y (budget e y (frameOf c m h) []) ≡ e
+unfolding reserve
+last-left c m e y h p q k =
+    numbers (budget e y (frameOf c m h) []) (min (c + h) (y + h)) (omega arith) (budget-is e y (frameOf c m h) []) k
+  where
+    numbers : (b a : ℕ) → a ≤ m → IsLargest e [] (a - 0) 0 (min m (a - 0)) b → e ≤ a - (0 + b) → a - (0 + b) ≡ e
+    numbers b a u i k =
+        ⊎-elim
+        (λ (v : min m (a - 0) ≤ b). omega arith)
+        (λ (v : b < min m (a - 0)). under (i .refused b (le-refl b) v))
+        (le-or-lt (min m (a - 0)) b)
+      where
+        under : a - 0 ≤ b + e → a - (0 + b) ≡ e
+        under w = omega arith
+
+back : (y h b q : ℕ) → b ≤ y + h → q ≡ y + h - b → 0 + b + q - h ≡ y
+back y h b q p e = omega arith
+
+module _ (c m e : ℕ) where
+  -- the plan requires all that it has
+  tight : (y h : ℕ) (hs : List ℕ) → y + total (h ∷ hs) ≤ c → y + total (h ∷ hs) ≤ m →
+      Feasible e y (framesOf c m (h ∷ hs)) (plan e y (framesOf c m (h ∷ hs))) →
+      requirement e (framesOf c m (h ∷ hs)) (plan e y (framesOf c m (h ∷ hs))) ≡ y
+  unfolding framesOf plan requirement
+  tight y h [] p q k =
+      let b = budget e y (frameOf c m h) [] in
+      let u = last-left c m e y h (omega arith) (omega arith) (k .1) in
+      tight-last b (k .0 .have) u
+    where
+      tight-last : (b : ℕ) → 0 + b ≤ min (c + h) (y + h) → min (c + h) (y + h) - (0 + b) ≡ e → 0 + b + e - h ≡ y
+      tight-last b v u = omega arith
+  tight y h (x ∷ hs) p q k =
+      let f = frameOf c m h in
+      let b = budget e y f (framesOf c m (x ∷ hs)) in
+      let z = left f y b in
+      let n = numbers b (k .0 .have) in
+      back y h b (requirement e (framesOf c m (x ∷ hs)) (plan e z (framesOf c m (x ∷ hs)))) (n .0)
+      (tight z x hs (omega arith) (omega arith) (k .1) ∙ n .1)
+    where
+      numbers : (b : ℕ) → 0 + b ≤ min (c + h) (y + h) → (b ≤ y + h) × (min (c + h) (y + h) - (0 + b) ≡ y + h - b)
+      numbers b v = (omega arith, omega arith)
+
+  peak-carried : (y : ℕ) (hs : List ℕ) → y + total hs ≤ c → y + total hs ≤ m →
+      Feasible e y (framesOf c m hs) (plan e y (framesOf c m hs)) →
+      peak e (framesOf c m hs) (plan e y (framesOf c m hs)) ≡ greatest (carried y (framesOf c m hs) (plan e y (framesOf c m hs)))
+  unfolding framesOf plan peak carried requirement
+  peak-carried y [] p q k = refl
+  peak-carried y (h ∷ []) p q k = rw (last-left c m e y h (omega arith) (omega arith) (k .1)) refl
+  peak-carried y (h ∷ (x ∷ hs)) p q k =
+      let f = frameOf c m h in
+      let z = left f y (budget e y f (framesOf c m (x ∷ hs))) in
+      ap₂ max (tight z x hs (omega arith) (omega arith) (k .1)) (peak-carried z (x ∷ hs) (omega arith) (omega arith) (k .1))
+
+-- the needed capacity is the greatest of the start, the end and the charges that the open plan carries
+pub needed-carried : (r : Request) → r .end ≤ mostEnergy r →
+    neededOf r ≡ max (r .start) (max (r .end) (greatest (carried (r .start) (framesOf (boundless r) (mostEnergy r) (r .harvest)) (openPlan r))))
+unfolding neededOf openPlan
+needed-carried r reach =
+    rw (peak-carried (boundless r) (mostEnergy r) (r .end) (r .start) (r .harvest) (omega arith) (omega arith) (open-plan-frames r reach)) refl
