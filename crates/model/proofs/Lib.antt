@@ -17,3 +17,4 @@ pub mod Reach
 pub mod Request
 pub mod Needed
 pub mod Peak
+pub mod Refusals
