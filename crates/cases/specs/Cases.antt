@@ -1,0 +1,61 @@
+-- The cases that document 01 marks with *, in its order, and what each of them states of the definitions.
+use mathlib.Core.Path.{_≡_}
+use mathlib.Core.List.{List, [], _∷_}
+use lib.IntN.{ℤ, pos, negsuc}
+use Prim.Native.Nat.{ℕ}
+use lib.ListN.{length}
+use Rattle.model.specs.declared.Refusal.{Refusal}
+use Rattle.model.specs.Request.{Request, request, frameCount}
+use Rattle.model.specs.Refusals.{refusal, none, planRefusal, neededRefusal}
+use Rattle.model.specs.Charge.{charges}
+use Rattle.model.specs.Trace.{trace, Verdict, below-zero, verdict}
+use Rattle.model.specs.Curves.{houseCurve, grade}
+use Rattle.model.specs.Plan.{planOf, neededOf}
+
+pub data Case : Type 0 where
+  -- a request and its plan
+  plans : Request → List ℕ → Case
+  -- a request and the charges after each frame of its plan
+  charged : Request → List ℕ → Case
+  -- a request and its needed capacity
+  needs : Request → ℕ → Case
+  -- a request and the refusal of its planning
+  refused : Request → Refusal → Case
+  -- budgets and their worth by the three house curves
+  worths : List ℕ → ℕ → ℕ → ℕ → Case
+  -- a request, supplied budgets, their charges and the verdict
+  traces : Request → List ℕ → List ℤ → Verdict → Case
+
+abbrev pub Holds : Case → Type 0
+Holds (plans r bs) = (planRefusal r (frameCount r) ≡ none) × (planOf r ≡ bs)
+Holds (charged r xs) = charges r (planOf r) ≡ xs
+Holds (needs r c) = (neededRefusal r ≡ none) × (neededOf r ≡ c)
+Holds (refused r f) = planRefusal r (frameCount r) ≡ f
+Holds (worths bs x y z) = (grade (houseCurve 0) bs ≡ x) × (grade (houseCurve 1) bs ≡ y) × (grade (houseCurve 2) bs ≡ z)
+Holds (traces r bs zs v) = (trace r bs ≡ zs) × (verdict r bs ≡ v)
+
+abbrev pub AllHold : List Case → Type 0
+AllHold [] = Unit {0}
+AllHold (c ∷ cs) = Holds c × AllHold cs
+
+-- the request of the listing, with a capacity
+abbrev pub listing : ℕ → Request
+listing c = request c 2 2 (6 ∷ 4 ∷ 0 ∷ 0 ∷ 5 ∷ 5 ∷ [])
+
+abbrev pub cases : List Case
+cases =
+    plans (listing 5) (4 ∷ 3 ∷ 3 ∷ 2 ∷ 4 ∷ 4 ∷ [])
+    ∷ charged (listing 5) (4 ∷ 5 ∷ 2 ∷ 0 ∷ 1 ∷ 2 ∷ [])
+    ∷ needs (listing 5) 6
+    ∷ worths (4 ∷ 3 ∷ 3 ∷ 2 ∷ 4 ∷ 4 ∷ []) 320 480 100
+    ∷ plans (listing 6) (3 ∷ 3 ∷ 3 ∷ 3 ∷ 4 ∷ 4 ∷ [])
+    ∷ plans (request 9 0 0 (1 ∷ 2 ∷ [])) (1 ∷ 2 ∷ [])
+    ∷ needs (request 9 0 0 (1 ∷ 2 ∷ [])) 0
+    ∷ plans (request 9 0 0 (2 ∷ 1 ∷ [])) (2 ∷ 1 ∷ [])
+    ∷ plans (request 10 10 0 (0 ∷ [])) (10 ∷ [])
+    ∷ needs (request 10 10 0 (0 ∷ [])) 10
+    ∷ plans (request 8 3 7 (4 ∷ [])) (0 ∷ [])
+    ∷ refused (request 8 3 8 (4 ∷ [])) (refusal 9 1)
+    ∷ plans (request 0 0 0 (5 ∷ [])) (5 ∷ [])
+    ∷ traces (listing 22) (4 ∷ 4 ∷ 4 ∷ 4 ∷ 2 ∷ 2 ∷ []) (pos 4 ∷ pos 4 ∷ pos 0 ∷ negsuc 3 ∷ negsuc 0 ∷ pos 2 ∷ []) (below-zero 4)
+    ∷ []
