@@ -1,0 +1,5 @@
+-- The laws behind the functions' proofs.
+pub mod Reserve
+pub mod Frames
+pub mod Walk
+pub mod Range

@@ -1,0 +1,37 @@
+-- The reserve of a level for the frames from a number on: what it is at a frame and at the end, and that it grows with the level.
+use mathlib.Core.Path.{_≡_, refl, ap}
+use mathlib.Core.List.{List, [], _∷_}
+use Prim.Native.Nat.{ℕ, _+_, _-_, _≤_, _<_, min, max}
+use native.Mathlib.Nat.{le-refl}
+use native.Mathlib.Omega.{arith}
+use lib.ListN.{length, drop, drop-of-length-le}
+use Rattle.model.specs.Frames.{Frame, draw, reserve}
+use Rattle.pace.specs.Frame.{frame, reserveAt, Read}
+use Rattle.pace.specs.Pace.{drawn}
+
+grows-step : (c d i x x′ r r′ : ℕ) → x ≤ x′ → r ≤ r′ → min c (d + x + r - i) ≤ min c (d + x′ + r′ - i)
+grows-step c d i x x′ r r′ p q = omega arith
+
+-- the reserve grows with the level
+pub reserve-grows : (e l m : ℕ) (fs : List Frame) → l ≤ m → reserve e l fs ≤ reserve e m fs
+unfolding reserve
+reserve-grows e l m [] h = le-refl _
+reserve-grows e l m (f ∷ fs) h =
+    grows-step (f .ceiling - f .inflow) (f .drain) (f .inflow) (draw f l) (draw f m) (reserve e l fs) (reserve e m fs) (omega arith)
+    (reserve-grows e l m fs h)
+
+-- the same, from frame i on
+pub grows : (e : ℕ) (fs : List Frame) (i l m : ℕ) → l ≤ m → reserveAt e fs i l ≤ reserveAt e fs i m
+unfolding reserveAt
+grows e fs i l m h = reserve-grows e l m (drop i fs) h
+
+-- the reserve before a frame, from that after it
+pub at-frame : (e l : ℕ) {fs : List Frame} {i h m d lo hi : ℕ} → Read fs i h m d lo hi →
+    reserveAt e fs i l ≡ min (m - h) (d + drawn lo hi l + reserveAt e fs (i + 1) l - h)
+unfolding reserveAt reserve
+at-frame e l r = rw (r .is)
+
+-- past the last frame it is the end charge
+pub at-end : (e : ℕ) (fs : List Frame) (i l : ℕ) → length fs ≤ i → reserveAt e fs i l ≡ e
+unfolding reserveAt reserve
+at-end e fs i l h = rw (drop-of-length-le fs {i = i} h)

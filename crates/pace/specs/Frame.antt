@@ -1,0 +1,23 @@
+-- The frames of a request from a number on, and one frame read field by field.
+use mathlib.Core.Path.{_≡_}
+use mathlib.Core.List.{List, _∷_}
+use Prim.Native.Nat.{ℕ, _+_, _≤_, _<_, _^_}
+use lib.ListN.{drop}
+use Rattle.model.specs.Frames.{Frame, reserve}
+
+-- a frame of an inflow, a ceiling, a drain, a least and a most
+abbrev pub frame : ℕ → ℕ → ℕ → ℕ → ℕ → Frame
+frame h m d lo hi = record { inflow = h; ceiling = m; drain = d; least = lo; most = hi }
+
+-- the reserve of a level for the frames from number i on
+unfoldable pub reserveAt : ℕ → List Frame → ℕ → ℕ → ℕ
+reserveAt e fs i l = reserve e l (drop i fs)
+
+-- frame number i of the list is this one, and its figures leave room for sums of 64 bits
+pub record Read (fs : List Frame) (i h m d lo hi : ℕ) : Type 0 where
+  pub is : drop i fs ≡ frame h m d lo hi ∷ drop (i + 1) fs
+  pub inflow-fits : h < 2 ^ 32
+  pub ceiling-fits : m ≤ 2 ^ 33
+  pub drain-fits : d < 2 ^ 32
+  pub least-fits : lo < 2 ^ 32
+  pub most-fits : hi < 2 ^ 32
