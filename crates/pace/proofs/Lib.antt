@@ -3,3 +3,5 @@ pub mod Reserve
 pub mod Frames
 pub mod Walk
 pub mod Range
+pub mod Carry
+pub mod Steps

@@ -18,7 +18,7 @@ whole e fs i a lo hi top p k q =
       high = omega arith;
       have = omega arith;
       taken = λ (z : lo < lo). omega arith;
-      refused = λ (y : top < a) (z : top < hi). omega arith;
+      refused = λ (z : top < hi). omega arith;
     }
 
 module _ {e : ℕ} {fs : List Frame} {i a lo hi good s top : ℕ} (at : Between e fs i a lo hi good s top) where
@@ -59,5 +59,5 @@ module _ {e : ℕ} {fs : List Frame} {i a lo hi good s top : ℕ} (at : Between 
           high = omega (arith, at .high);
           have = omega (arith, at .have);
           taken = at .taken;
-          refused = λ (y : g - 1 < a) (z : g - 1 < hi). omega (arith, at .have);
+          refused = λ (z : g - 1 < hi). omega (arith, at .have);
         }

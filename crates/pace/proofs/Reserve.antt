@@ -2,25 +2,14 @@
 use mathlib.Core.Path.{_≡_, refl, ap}
 use mathlib.Core.List.{List, [], _∷_}
 use Prim.Native.Nat.{ℕ, _+_, _-_, _≤_, _<_, min, max}
-use native.Mathlib.Nat.{le-refl}
 use native.Mathlib.Omega.{arith}
 use lib.ListN.{length, drop, drop-of-length-le}
-use Rattle.model.specs.Frames.{Frame, draw, reserve}
+use Rattle.model.specs.Frames.{Frame, reserve}
+use Rattle.model.proofs.Reserve.{reserve-grows}
 use Rattle.pace.specs.Frame.{frame, reserveAt, Read}
 use Rattle.pace.specs.Pace.{drawn}
 
-grows-step : (c d i x x′ r r′ : ℕ) → x ≤ x′ → r ≤ r′ → min c (d + x + r - i) ≤ min c (d + x′ + r′ - i)
-grows-step c d i x x′ r r′ p q = omega arith
-
 -- the reserve grows with the level
-pub reserve-grows : (e l m : ℕ) (fs : List Frame) → l ≤ m → reserve e l fs ≤ reserve e m fs
-unfolding reserve
-reserve-grows e l m [] h = le-refl _
-reserve-grows e l m (f ∷ fs) h =
-    grows-step (f .ceiling - f .inflow) (f .drain) (f .inflow) (draw f l) (draw f m) (reserve e l fs) (reserve e m fs) (omega arith)
-    (reserve-grows e l m fs h)
-
--- the same, from frame i on
 pub grows : (e : ℕ) (fs : List Frame) (i l m : ℕ) → l ≤ m → reserveAt e fs i l ≤ reserveAt e fs i m
 unfolding reserveAt
 grows e fs i l m h = reserve-grows e l m (drop i fs) h

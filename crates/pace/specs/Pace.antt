@@ -8,6 +8,7 @@ use Rattle.model.specs.Request.{total}
 use Rattle.model.specs.Frames.{Frame, Feasible, plan}
 use Rattle.pace.specs.Frame.{reserveAt}
 use Rattle.pace.specs.Search.{Between}
+use Rattle.pace.specs.Peak.{peakCarried}
 
 -- the plan of the frames from i on can be drawn from charge y
 unfoldable pub Able : ℕ → List Frame → ℕ → ℕ → Type 0
@@ -41,9 +42,10 @@ pub record Drawn (e : ℕ) (fs : List Frame) (i a lo hi b y level spare : ℕ) (
   pub carries : y ≡ a - b
   pub paced : Paced e fs i y level spare exact known
 
--- a step from charge y at frame i: the plan's budget b there, and the plan goes on from charge z
+-- a step from charge y at frame i: the plan's budget there is b, and the plan goes on from charge z
 pub record Stepped (e : ℕ) (fs : List Frame) (i y b z level spare : ℕ) (exact known : Bool) : Type 0 where
   pub is : plan e y (drop i fs) ≡ b ∷ plan e z (drop (i + 1) fs)
+  pub peak : peakCarried e y (drop i fs) ≡ max z (peakCarried e z (drop (i + 1) fs))
   pub fits : b < 2 ^ 32
   pub able : Able e fs (i + 1) z
   pub paced : Paced e fs (i + 1) z level spare exact known

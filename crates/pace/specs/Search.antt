@@ -14,4 +14,4 @@ pub record Between (e : ℕ) (fs : List Frame) (i a lo hi good spare top : ℕ) 
   -- good leaves the reserve of one level below it, with so much to spare
   pub taken : lo < good → good + reserveAt e fs i (good - 1) + spare ≤ a
   -- one unit more than top leaves too little
-  pub refused : top < a → top < hi → a ≤ top + reserveAt e fs i top
+  pub refused : top < hi → a ≤ top + reserveAt e fs i top

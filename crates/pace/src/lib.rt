@@ -4,3 +4,4 @@
 pub mod frame;
 pub mod scan;
 pub mod search;
+pub mod step;
