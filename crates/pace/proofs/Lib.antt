@@ -5,3 +5,4 @@ pub mod Walk
 pub mod Range
 pub mod Carry
 pub mod Steps
+pub mod Going

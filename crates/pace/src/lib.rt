@@ -2,6 +2,8 @@
 // budgets differ by one unit at most, so only an event starts a new search. Everything here is for the entries of other
 // crates, which have checked the request.
 pub mod frame;
+pub mod peak;
+pub mod plan;
 pub mod scan;
 pub mod search;
 pub mod step;

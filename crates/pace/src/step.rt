@@ -4,6 +4,7 @@ use super::frame::frame_at;
 use super::scan::scan;
 use super::search::search;
 ghost use mathlib.Core.Path.{_≡_};
+ghost use mathlib.Core.Bool.{false};
 ghost use Prim.Native.Nat.{_+_, _-_, _≤_, _<_, _^_};
 ghost use lib.ListN.{length};
 ghost use Rattle.model.specs.Plan.{framesOf};
@@ -19,6 +20,20 @@ pub struct Pace {
     pub spare: u64,
     pub exact: bool,
     pub known: bool,
+}
+
+// Before the first frame no pace is known.
+pub fn set_off(start: u64) -> Pace
+    ensures { λ r. ⌜ r ≡ record { budget = 0; charge = start; level = 0; spare = 0; exact = false; known = false } ⌝ }
+{
+    Pace {
+        budget: 0,
+        charge: start,
+        level: 0,
+        spare: 0,
+        exact: false,
+        known: false,
+    }
 }
 
 // Draws a budget of what a frame has, and goes on at a pace.

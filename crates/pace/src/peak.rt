@@ -1,0 +1,24 @@
+// The greatest charge that the plan carries from frame to frame, without writing the plan.
+use super::frame::greater;
+use super::step::set_off;
+use super::step::step;
+ghost use mathlib.Core.Path.{_≡_};
+ghost use Rattle.model.specs.Plan.{framesOf};
+ghost use Rattle.pace.specs.Pace.{Ready};
+ghost use Rattle.pace.specs.Peak.{peakCarried};
+
+// The greatest charge carried on after any frame of the plan.
+pub fn peak_charge(capacity: u64, start: u64, end: u64, most: u64, harvest: &[u32]) -> u64
+    requires { ⌜ Ready capacity start end most (now harvest) ⌝ }
+    ensures { λ r. ⌜ r ≡ peakCarried end start (framesOf capacity most (now (harvest .entry))) ⌝ }
+{
+    let mut p = set_off(start);
+    let mut top = 0;
+    let mut i = 0;
+    while i < harvest.len() {
+        p = step(capacity, end, most, harvest, i, p);
+        top = greater(top, p.charge);
+        i += 1;
+    }
+    top
+}
