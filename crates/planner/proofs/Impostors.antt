@@ -1,0 +1,63 @@
+-- Answers that look sensible and that the promises refuse, each on a request of document 01.
+use mathlib.Core.Path.{_≡_, sym, _∙_}
+use mathlib.Core.List.{List, [], _∷_}
+use Prim.Native.Nat.{ℕ}
+use native.Mathlib.Omega.{arith}
+use Rattle.model.specs.declared.Refusal.{Refusal}
+use Rattle.model.specs.Request.{request}
+use Rattle.model.specs.Refusals.{Outcome, gives, refuses}
+use Rattle.model.specs.Frames.{reserve, largest, budget, plan, requirement, peak}
+use Rattle.model.specs.Plan.{framesOf, planOf, openPlan, neededOf}
+use Rattle.planner.specs.declared.plan.PlanAnswer.{PlanAnswer}
+use Rattle.planner.specs.declared.plan.PlanAnswer.the-variants as plan-answer
+use Rattle.planner.specs.declared.needed.NeededAnswer.the-variants as needed-answer
+use Rattle.planner.specs.Says.{PlanSays, NeededSays}
+
+-- lists with different heads are different
+heads : (x y : ℕ) (xs ys : List ℕ) → (x ≡ y → ⊥) → x ∷ xs ≡ y ∷ ys → ⊥
+heads x y xs ys h p = h (cc)
+
+-- the plan of harvest 1, 2 is 1, 2
+written : (bs : List ℕ) (x y : ℕ) (r : PlanAnswer) → PlanSays 9 0 0 (1 ∷ 2 ∷ []) (x ∷ y ∷ []) bs r → bs ≡ 1 ∷ 2 ∷ []
+unfolding planOf plan framesOf budget largest reserve
+written bs x y r p = p .budgets
+
+-- that of harvest 2, 1 is 2, 1
+written-falling : (bs : List ℕ) (x y : ℕ) (r : PlanAnswer) → PlanSays 9 0 0 (2 ∷ 1 ∷ []) (x ∷ y ∷ []) bs r → bs ≡ 2 ∷ 1 ∷ []
+unfolding planOf plan framesOf budget largest reserve
+written-falling bs x y r p = p .budgets
+
+-- all budgets 0 is feasible, and not the plan
+pub all-zeros-refused : (x y : ℕ) (r : PlanAnswer) → PlanSays 9 0 0 (1 ∷ 2 ∷ []) (x ∷ y ∷ []) (0 ∷ 0 ∷ []) r → ⊥
+all-zeros-refused x y r p = heads 0 1 (0 ∷ []) (2 ∷ []) (λ q. omega arith) (written (0 ∷ 0 ∷ []) x y r p)
+
+-- no fixed list is the plan of both harvests 1, 2 and 2, 1
+pub fixed-plan-refused : (bs : List ℕ) (x y : ℕ) (r s : PlanAnswer) → PlanSays 9 0 0 (1 ∷ 2 ∷ []) (x ∷ y ∷ []) bs r →
+    PlanSays 9 0 0 (2 ∷ 1 ∷ []) (x ∷ y ∷ []) bs s → ⊥
+fixed-plan-refused bs x y r s p q =
+    heads 1 2 (2 ∷ []) (1 ∷ []) (λ z. omega arith) (sym (written bs x y r p) ∙ written-falling bs x y s q)
+
+-- budgets left as they were
+pub unwritten-refused : (r : PlanAnswer) → PlanSays 9 0 0 (1 ∷ 2 ∷ []) (7 ∷ 7 ∷ []) (7 ∷ 7 ∷ []) r → ⊥
+unwritten-refused r p = heads 7 1 (7 ∷ []) (2 ∷ []) (λ q. omega arith) (written (7 ∷ 7 ∷ []) 7 7 r p)
+
+-- a refusal is no value
+no-refusal : {A : Type 0} (f : Refusal) (v : A) → refuses f ≡ gives v → ⊥
+no-refusal f v p = let z : _≡_ {A = ℕ} 0 1 = cc in omega arith
+
+-- a refusal where there is a plan, whatever its number and P
+pub refusal-refused : (bs : List ℕ) (x y : ℕ) (f : Refusal) → PlanSays 9 0 0 (1 ∷ 2 ∷ []) (x ∷ y ∷ []) bs (plan-answer.Refused f) → ⊥
+refusal-refused bs x y f p = no-refusal f tt (p .answer)
+
+-- start plus all harvest as the needed capacity of harvest 1, 2, which is 0
+pub all-energy-refused : NeededSays 0 0 (1 ∷ 2 ∷ []) (needed-answer.Capacity 3) → ⊥
+unfolding neededOf openPlan plan framesOf budget largest reserve peak requirement
+all-energy-refused p = other 3 0 (λ q. omega arith) (p .answer)
+  where
+    other : (a b : ℕ) → (a ≡ b → ⊥) → gives a ≡ gives b → ⊥
+    other a b h q = h (cc)
+
+-- a refusal where there is a needed capacity
+pub needed-refusal-refused : (f : Refusal) → NeededSays 0 0 (1 ∷ 2 ∷ []) (needed-answer.Refused f) → ⊥
+unfolding neededOf openPlan plan framesOf budget largest reserve peak requirement
+needed-refusal-refused f p = no-refusal f 0 (p .answer)

@@ -1,0 +1,3 @@
+-- The laws that the entries rest on.
+pub mod Entries
+pub mod Impostors

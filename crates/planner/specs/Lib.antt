@@ -1,0 +1,2 @@
+-- What the planner's entries promise.
+pub mod Says

@@ -1,0 +1,29 @@
+// The capacity that a request needs.
+ghost use Rattle.planner.specs.Says.{NeededSays};
+use pace::frame::greater;
+use pace::peak::peak_charge;
+use request::entries::needed_refusal;
+use request::refusals::is_none;
+use request::sums::sum;
+
+// The needed capacity, or the refusal of the request.
+pub enum NeededAnswer {
+    Capacity(u64),
+    Refused(model::Refusal),
+}
+
+// Refuses with 1, 2, 3, 6 or 9, in this order, or gives the highest charge of the plan without limit.
+pub fn needed(start: u32, end: u32, harvest: &[u32]) -> NeededAnswer
+    ensures { λ r. ⌜ NeededSays start end (now (harvest .entry)) r ⌝ }
+{
+    let refusal = needed_refusal(start, end, harvest);
+    if !is_none(refusal) {
+        return NeededAnswer::Refused(refusal);
+    }
+    let all = sum(harvest);
+    let first = start as u64;
+    let last = end as u64;
+    let energy = first + all;
+    let peak = peak_charge(first + (last + all), first, last, energy, harvest);
+    NeededAnswer::Capacity(greater(first, greater(last, peak)))
+}
