@@ -1,0 +1,87 @@
+-- The promise of the tracer, refused and not: from the equations to what the verdict means.
+use mathlib.Core.Path.{_≡_, refl, sym, ap, subst, _∙_}
+use mathlib.Core.Bool.{Bool, true, false, false≢true}
+use mathlib.Core.List.{List}
+use Prim.Native.Nat.{ℕ, suc, _≤_}
+use native.Mathlib.Omega.{arith}
+use lib.Dec.{leb}
+use lib.IntN.{ℤ, pos}
+use lib.Signed.{leZ}
+use lib.ListN.{length}
+use Rattle.model.specs.declared.Refusal.{Refusal}
+use Rattle.model.specs.Choice.{pick}
+use Rattle.model.specs.Request.{Request, frameCount}
+use Rattle.model.specs.Refusals.{gives, refuses, isNone, traceRefusal}
+use Rattle.model.specs.Trace.{below-zero, end-too-low, is-feasible, belowFrom, lastFrom, trace, verdict}
+use Rattle.model.proofs.Trace as model
+use Rattle.request.proofs.Order.{pick-by}
+use Rattle.request.proofs.Within.{trace-within}
+use Rattle.tracer.specs.declared.TraceAnswer.{TraceAnswer}
+use Rattle.tracer.specs.declared.TraceAnswer.the-variants.{Feasible, EndTooLow, BelowZero, Refused}
+use Rattle.tracer.specs.Says.{said, judged, EarliestBelow, TraceSays}
+use Rattle.tracer.proofs.Frames.{trace-length}
+use Rattle.tracer.proofs.Search.{last-any}
+
+-- different answers are different
+apart : {A : Type 0} → _≡_ {A = ℕ} 0 1 → A
+apart e = let b : ⊥ = omega arith in absurd b
+
+-- a refusal alters nothing and is answered
+pub refused : (q : Request) (bs : List ℕ) (xs : List ℤ) (f : Refusal) → f ≡ traceRefusal q (length bs) (length xs) → isNone f ≡ false → TraceSays q bs xs xs (Refused f)
+refused q bs xs f p e =
+    let g = traceRefusal q (length bs) (length xs) in
+    let n : isNone g ≡ false = sym (ap isNone p) ∙ e in
+    record {
+      answer = ap refuses p ∙ sym (pick-by (isNone g) false (gives (verdict q bs)) (refuses g) n);
+      charges = sym (pick-by (isNone g) false (trace q bs) xs n);
+      feasible = λ h. absurd (false≢true (sym n ∙ h));
+      feasible-charges = λ h. apart (cc);
+      earliest = λ k h. apart (cc);
+    }
+
+-- the answer that the charges earn is the verdict that they earn
+said-by : (k : ℕ) (s t : Bool)
+    → said (pick s (BelowZero k) (pick t Feasible EndTooLow)) ≡ gives (pick s (below-zero k) (pick t is-feasible end-too-low))
+said-by k true t = refl
+said-by k false true = refl
+said-by k false false = refl
+
+said-judged : (q : Request) (bs : List ℕ) → 1 ≤ frameCount q → length bs ≡ frameCount q → said (judged (q .end) (trace q bs)) ≡ gives (verdict q bs)
+said-judged q bs l m =
+    let zs = trace q bs in
+    let k = belowFrom 1 zs in
+    let n = trace-length (q .capacity) (pos (q .start)) (q .harvest) bs m in
+    said-by k (leb 1 k) (leZ (pos (q .end)) (lastFrom (pos 0) zs))
+    ∙ ap (λ (z : ℤ). gives (pick (leb 1 k) (below-zero k) (pick (leZ (pos (q .end)) z) is-feasible end-too-low)))
+    (last-any (pos 0) (pos (q .start)) zs (omega arith))
+
+-- only one answer says "feasible", and only one names a frame
+said-feasible : (r : TraceAnswer) → said r ≡ gives is-feasible → r ≡ Feasible
+said-feasible Feasible e = refl
+said-feasible EndTooLow e = cc
+said-feasible (BelowZero n) e = cc
+said-feasible (Refused f) e = cc
+
+-- a frame that the verdict names is the earliest below zero
+earliest-of : (q : Request) (bs : List ℕ) (ys : List ℤ) (k : ℕ) → verdict q bs ≡ below-zero k → ys ≡ trace q bs → (i : ℕ) × (k ≡ suc i) × EarliestBelow i ys
+earliest-of q bs ys k u p =
+    let b = model.verdict-below q bs k u in
+    subst (λ (zs : List ℤ). (i : ℕ) × (k ≡ suc i) × EarliestBelow i zs) (sym p)
+    (b .0, b .1, record { not-last = b .2 .not-last; below = b .2 .below; before = b .2 .before })
+
+-- where nothing is refused, the charges of the trace and the answer that they earn keep the promise
+pub traced : (q : Request) (bs : List ℕ) (xs ys : List ℤ) (r : TraceAnswer) → isNone (traceRefusal q (length bs) (length xs)) ≡ true
+    → ys ≡ trace q bs → r ≡ judged (q .end) ys → TraceSays q bs xs ys r
+traced q bs xs ys r n p e =
+    let g = traceRefusal q (length bs) (length xs) in
+    let w = trace-within q (length bs) (length xs) n in
+    let v : said r ≡ gives (verdict q bs) =
+    ap said e ∙ ap (λ (zs : List ℤ). said (judged (q .end) zs)) p ∙ said-judged q bs (w .frames .some) (w .budgets) in
+    let m = model.verdict-feasible q bs (w .budgets) in
+    record {
+      answer = v ∙ sym (pick-by (isNone g) true (gives (verdict q bs)) (refuses g) n);
+      charges = p ∙ sym (pick-by (isNone g) true (trace q bs) xs n);
+      feasible = λ h. ((λ a. m .0 (cc)), (λ a. said-feasible r (v ∙ ap gives (m .1 a))));
+      feasible-charges = λ a. p ∙ model.trace-charges q bs (m .0 (cc));
+      earliest = λ k a. earliest-of q bs ys k (cc) p;
+    }

@@ -1,0 +1,2 @@
+-- What the tracer promises.
+pub mod Says

@@ -1,0 +1,46 @@
+-- What the tracer promises: its answer is document 01's verdict or refusal, and the lent charges are the trace or stay as they were.
+use mathlib.Core.Path.{_≡_}
+use mathlib.Core.Logic.{_↔_}
+use mathlib.Core.Bool.{true, false}
+use mathlib.Core.List.{List, map}
+use Prim.Native.Nat.{ℕ, suc, _<_}
+use lib.Dec.{leb}
+use lib.IntN.{ℤ, pos}
+use lib.Signed.{leZ, nonNeg}
+use lib.ListN.{length, getD}
+use Rattle.model.specs.Choice.{pick}
+use Rattle.model.specs.Request.{Request}
+use Rattle.model.specs.Charge as C
+use Rattle.model.specs.Refusals.{Outcome, gives, refuses, outcome, isNone, traceRefusal}
+use Rattle.model.specs.Trace.{Verdict, below-zero, end-too-low, is-feasible, belowFrom, lastFrom, trace, verdict}
+use Rattle.tracer.specs.declared.TraceAnswer.{TraceAnswer}
+use Rattle.tracer.specs.declared.TraceAnswer.the-variants.{Feasible, EndTooLow, BelowZero, Refused}
+
+-- document 01's verdict or refusal for each case of the answer
+abbrev pub said : TraceAnswer → Outcome Verdict
+said Feasible = gives is-feasible
+said EndTooLow = gives end-too-low
+said (BelowZero n) = gives (below-zero n)
+said (Refused f) = refuses f
+
+-- the answer that charges earn where nothing is refused, with the end charge that the last has to reach
+abbrev pub judged : ℕ → List ℤ → TraceAnswer
+judged e zs =
+    let k = belowFrom 1 zs in
+    pick (leb 1 k) (BelowZero k) (pick (leZ (pos e) (lastFrom (pos 0) zs)) Feasible EndTooLow)
+
+-- place i is the earliest whose charge is below zero, the last left out
+pub record EarliestBelow (i : ℕ) (zs : List ℤ) : Type 0 where
+  pub not-last : suc i < length zs
+  pub below : nonNeg (getD zs i (pos 0)) ≡ false
+  pub before : (j : ℕ) → j < i → nonNeg (getD zs j (pos 0)) ≡ true
+
+-- q the request, bs the budgets, xs the charges lent and ys the charges handed back, r the answer
+pub record TraceSays (q : Request) (bs : List ℕ) (xs ys : List ℤ) (r : TraceAnswer) : Type 0 where
+  pub answer : said r ≡ outcome (traceRefusal q (length bs) (length xs)) (verdict q bs)
+  pub charges : ys ≡ pick (isNone (traceRefusal q (length bs) (length xs))) (trace q bs) xs
+  -- "feasible" is Definition 1, and then the charges written are those of the frame rule
+  pub feasible : isNone (traceRefusal q (length bs) (length xs)) ≡ true → (r ≡ Feasible) ↔ (C.feasible q bs ≡ true)
+  pub feasible-charges : r ≡ Feasible → ys ≡ map pos (C.charges q bs)
+  -- a frame named is the earliest below zero
+  pub earliest : (n : ℕ) → r ≡ BelowZero n → (i : ℕ) × (n ≡ suc i) × EarliestBelow i ys

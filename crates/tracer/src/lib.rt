@@ -1,0 +1,35 @@
+// The tracer: the charge after each frame of any supplied budgets, below zero included, and the verdict on them.
+ghost use Rattle.model.specs.Request.{request};
+ghost use Rattle.tracer.specs.Says.{TraceSays};
+
+pub mod recurrence;
+pub mod verdicts;
+
+// What the tracer answers. A frame below zero has its number, counted from 1.
+pub enum TraceAnswer {
+    Feasible,
+    EndTooLow,
+    BelowZero(u32),
+    Refused(model::Refusal),
+}
+
+// Writes the charge after each frame of the budgets, and gives the verdict. A refusal alters nothing.
+pub fn trace(
+    capacity: u32,
+    start: u32,
+    end: u32,
+    harvest: &[u32],
+    budgets: &[u32],
+    charges: &mut [i64],
+) -> TraceAnswer
+    ensures { λ r. ⌜ TraceSays (request capacity start end (now (harvest .entry))) (now (budgets .entry)) (now (charges .entry)) (now (charges .exit)) r ⌝ }
+{
+    let n = budgets.len();
+    let m = charges.len();
+    let f = request::entries::trace_refusal(capacity, start, end, harvest, n, m);
+    if !request::refusals::is_none(f) {
+        return TraceAnswer::Refused(f);
+    }
+    recurrence::fill(capacity, start, harvest, budgets, charges);
+    verdicts::judge(end, charges)
+}
