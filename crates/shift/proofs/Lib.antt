@@ -1,3 +1,4 @@
 -- The laws behind the entries of a shift, and demand 3 over lists of calls.
 pub mod First
 pub mod Record
+pub mod Run

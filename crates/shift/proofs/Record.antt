@@ -152,7 +152,7 @@ refused-22 s h u e =
     first.stops (notShift s) (recordingRefusals (s .frames) (s .recorded) (s .charge) h u) (refusal 22 0) (fails s e) refl
 
 module _ (s : Shift) (h u : ℕ) (sound : isShift s ≡ true) where
-  past-22 : recordRefusal s h u ≡ firstOf (recordingRefusals (s .frames) (s .recorded) (s .charge) h u)
+  pub past-22 : recordRefusal s h u ≡ firstOf (recordingRefusals (s .frames) (s .recorded) (s .charge) h u)
   past-22 = first.past (notShift s) (recordingRefusals (s .frames) (s .recorded) (s .charge) h u) (passes s sound)
 
   pub refused-20 : s .recorded ≡ s .frames → recordRefusal s h u ≡ refusal 20 0

@@ -2,6 +2,5 @@
 pub mod Shift
 pub mod Rest
 pub mod Says
-
--- pub mod Logbook
--- pub mod Run
+pub mod Logbook
+pub mod Run

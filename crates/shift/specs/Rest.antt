@@ -1,4 +1,5 @@
 -- The rest of a shift: the request it stands for, its refusals, when it is short, and its budgets.
+use mathlib.Core.Path.{_≡_}
 use mathlib.Core.Bool.{Bool, true, false}
 use mathlib.Core.List.{List, [], _∷_, _++_}
 use Prim.Native.Nat.{ℕ, suc, _-_}
@@ -8,6 +9,8 @@ use Rattle.model.specs.declared.Refusal.{Refusal}
 use Rattle.model.specs.Choice.{pick}
 use Rattle.model.specs.Request.{Request, request, frameCount, mostEnergy}
 use Rattle.model.specs.Refusals.{firstOf, isNone, wrongLength, harvestOverLimit}
+use Rattle.model.specs.Charge.{feasible}
+use Rattle.model.specs.Reward.{IsPlan}
 use Rattle.model.specs.Plan.{planOf}
 use Rattle.shift.specs.declared.Shift.{Shift}
 use Rattle.shift.specs.Shift.{notShift, allRecorded}
@@ -49,3 +52,13 @@ restBudgets q = pick (endingOf q .short) (replicate (frameCount q) 0) (planOf q)
 -- a budget list after planning: budgets bs from place n on, earlier entries kept
 abbrev pub writtenFrom : ℕ → List ℕ → List ℕ → List ℕ
 writtenFrom n b bs = take n b ++ bs
+
+-- what a planning means that has refusal f, n frames recorded and rest q, and makes budgets b′ of b
+pub record RestMeans (f : Refusal) (n : ℕ) (q : Request) (b b′ : List ℕ) : Type 0 where
+  -- the list keeps its length, and the recorded frames their budgets
+  pub length-kept : length b′ ≡ length b
+  pub recorded-kept : take n b′ ≡ take n b
+  -- not short: the budgets from the next frame on are the plan of the rest
+  pub plan : isNone f ≡ true → endingOf q .short ≡ false → IsPlan q (drop n b′)
+  -- short: no assignment of the rest is feasible
+  pub none-feasible : isNone f ≡ true → endingOf q .short ≡ true → (bs : List ℕ) → feasible q bs ≡ false

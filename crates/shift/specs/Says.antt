@@ -18,7 +18,7 @@ use Rattle.shift.specs.declared.RecordAnswer.the-variants as recording
 use Rattle.shift.specs.declared.RestAnswer.{RestAnswer}
 use Rattle.shift.specs.declared.RestAnswer.the-variants as rest
 use Rattle.shift.specs.Shift.{started, isShift, recordRefusal, recordedBy}
-use Rattle.shift.specs.Rest.{Ending, notShort, endingOf, restRequest, restRefusal, restBudgets, partRefusal, writtenFrom}
+use Rattle.shift.specs.Rest.{Ending, notShort, endingOf, restRequest, restRefusal, restBudgets, partRefusal, writtenFrom, RestMeans}
 
 -- what start's answer says in document 01's terms
 abbrev pub startSaid : StartAnswer → Outcome Shift
@@ -63,18 +63,8 @@ pub record RestSays (s : Shift) (hs b b′ : List ℕ) (a : RestAnswer) : Type 0
   pub answer : restSaid a ≡ outcome (restRefusal s hs (length b)) (endingOf (restRequest s hs))
   -- the rest's budgets from the next frame on, earlier entries kept; after a refusal all of them
   pub budgets : b′ ≡ pick (isNone (restRefusal s hs (length b))) (writtenFrom (s .recorded) b (restBudgets (restRequest s hs))) b
-  -- the list keeps its length, and the recorded frames their budgets
-  pub kept : (length b′ ≡ length b) × (take (s .recorded) b′ ≡ take (s .recorded) b)
-  -- planned: the budgets from the next frame on are the plan of the rest
-  pub plan :
-      isNone (restRefusal s hs (length b)) ≡ true →
-      endingOf (restRequest s hs) .short ≡ false →
-      IsPlan (restRequest s hs) (drop (s .recorded) b′)
-  -- short: no assignment of the rest is feasible
-  pub none-feasible :
-      isNone (restRefusal s hs (length b)) ≡ true →
-      endingOf (restRequest s hs) .short ≡ true →
-      (bs : List ℕ) → feasible (restRequest s hs) bs ≡ false
+  -- planned: the plan of the rest; short: nothing is feasible
+  pub means : RestMeans (restRefusal s hs (length b)) (s .recorded) (restRequest s hs) b b′
 
 -- the part of budgets b that begins at the next frame: its contents, its position from the lent list's, and number and P of the refusal
 pub record PartSays (s : Shift) (b part : List ℕ) (at part-at : ℕ × ℕ) (number p : ℕ) : Type 0 where
