@@ -1,4 +1,5 @@
 -- The laws behind the entries of a shift, and demand 3 over lists of calls.
 pub mod First
 pub mod Record
+pub mod Rest
 pub mod Run

@@ -2,11 +2,13 @@
 ghost use mathlib.Core.Path.{_≡_};
 ghost use Prim.Native.Nat.{_+_, _^_, _≤_, _<_};
 ghost use lib.Dec.{eqb};
+ghost use denote.Ref.{ptr};
 ghost use mathlib.Core.Bool.{true};
 ghost use Rattle.model.specs.Refusals.{isNone};
 ghost use Rattle.model.specs.Charge.{atHand, frameEnd};
 ghost use Rattle.shift.specs.Shift.{isShift, recordRefusal, recordedBy};
-ghost use Rattle.shift.specs.Says.{RecordSays};
+ghost use Rattle.shift.specs.Rest.{partRefusal};
+ghost use Rattle.shift.specs.Says.{RecordSays, PartSays};
 use model::Refusal;
 
 // The limits of document 01.
@@ -172,6 +174,22 @@ impl Shift {
         }
     }
 
+    // The first refusal of returning the rest's part of so many budgets, number 0 if there is none.
+    fn part_refusal(self, budgets: usize) -> Refusal
+        ensures { λ r. ⌜ r ≡ partRefusal self budgets ⌝ }
+    {
+        if !self.is_shift() {
+            return Refusal { number: 22, p: 0 };
+        }
+        if budgets != self.frames as usize {
+            return Refusal { number: 7, p: 0 };
+        }
+        if self.recorded == self.frames {
+            return Refusal { number: 20, p: 0 };
+        }
+        Refusal { number: 0, p: 0 }
+    }
+
     // Records the next frame's harvest and use: hands the shift back as it stands after it, or with the refusal as it was.
     pub fn record(self, harvest: u32, used: u32) -> RecordAnswer
         ensures { λ r. ⌜ RecordSays self harvest used r ⌝ }
@@ -182,4 +200,19 @@ impl Shift {
         }
         RecordAnswer::Recorded(self.recorded_by(harvest, used))
     }
+}
+
+// The part of the budgets that begins at the next frame, lying where they lie. The refusal goes to the lent number and P, 0 if
+// there is none; the part is then empty.
+pub fn rest_part<'a>(shift: Shift, budgets: &'a [u32], number: &mut u32, p: &mut u64) -> &'a [u32]
+    ensures { λ r. ⌜ PartSays shift (now (budgets .entry)) (now r) (ptr (budgets .entry)) (ptr r) (now (number .exit)) (now (p .exit)) ⌝ }
+{
+    let refusal = shift.part_refusal(budgets.len());
+    *number = refusal.number;
+    *p = refusal.p;
+    if refusal.number != 0 {
+        return &budgets[0..0];
+    }
+    let from = shift.recorded as usize;
+    &budgets[from..]
 }

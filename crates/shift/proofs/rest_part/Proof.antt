@@ -1,0 +1,68 @@
+-- `rest_part` meets its promise: past the refusals the part begins at the next frame, four bytes a frame further on.
+use mathlib.Core.Path.{sym, ap, _∙_}
+use Prim.Native.Nat.{_-_}
+use native.Mathlib.Omega.{arith}
+use lib.ListN.{length, take, drop}
+use borrow.Author.Tests.{eq-eqb}
+use borrow.Rule.Slice.Shared.{bySize}
+use Rattle.model.specs.Refusals.{isNone}
+use Rattle.shift.proofs.Rest as law
+use borrow.Author.Needs.{needs}
+use Rattle.shift.proofs.rest_part.Statement.{statement}
+use Rattle.shift.proofs.rest_part.Tie as tie
+
+-- past the test the part is open
+open-part : (c : tie.Else1) → let s = c .before .before .before .before .args in law.PartOpen (s .shift) (length (s .budgets .now))
+open-part c =
+    let s = c .before .before .before .before .args in
+    let f = c .before .before .part-refusal in
+    law.part-open (s .shift) (length (s .budgets .now)) (ap isNone (sym (f .ensures)) ∙ eq-eqb (f .result .number) 0 (c .if1 .left))
+
+part-refusal-requires : tie.Need-part-refusal-requires
+part-refusal-requires c κs = search needs
+
+sub-result : tie.Need-sub-result
+sub-result c = search needs
+
+part-result-start : tie.Need-part-result-start
+part-result-start c = search needs
+
+part-result-end : tie.Need-part-result-end
+part-result-end c = search needs
+
+returns : tie.Need-returns
+returns c = let s = c .before .before .before .before .before .args in let f = c .before .before .before .part-refusal in law.part-refused (s .shift) (s .budgets .now) (s .budgets .ptr) (bySize 4 0 (s .budgets .ptr .1)) (f .result) (omega arith) (f .ensures) (c .before .if1 .taken)
+
+cast-from : tie.Need-cast-from
+cast-from c = search needs
+
+mul-result : tie.Need-mul-result
+mul-result c = search needs
+
+sub-result-2 : tie.Need-sub-result-2
+sub-result-2 c = let p = open-part (c .before) in omega arith
+
+part-result-start-2 : tie.Need-part-result-start-2
+part-result-start-2 c = let p = open-part (c .before) in omega arith
+
+part-result-end-2 : tie.Need-part-result-end-2
+part-result-end-2 c = search needs
+
+returns-2 : tie.Need-returns-2
+returns-2 c = let s = c .before .before .before .before .before .before .args in let f = c .before .before .before .before .part-refusal in law.part-returned (s .shift) (s .budgets .now) (take (length (s .budgets .now) - s .shift .recorded) (drop (s .shift .recorded) (s .budgets .now))) (s .budgets .ptr) (bySize 4 (s .shift .recorded) (s .budgets .ptr .1)) (f .result) (omega arith) (law.part-is (s .shift .recorded) (s .budgets .now)) (f .ensures) (c .before .before .if1 .left)
+
+pub rest-part-spec : {M : Type 1} → statement M
+rest-part-spec =
+    tie.close
+    (tie.spec
+    part-refusal-requires
+    sub-result
+    part-result-start
+    part-result-end
+    returns
+    cast-from
+    mul-result
+    sub-result-2
+    part-result-start-2
+    part-result-end-2
+    returns-2)
