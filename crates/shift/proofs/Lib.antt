@@ -1,5 +1,6 @@
 -- The laws behind the entries of a shift, and demand 3 over lists of calls.
 pub mod First
 pub mod Record
+pub mod Started
 pub mod Rest
 pub mod Run

@@ -1,19 +1,21 @@
 -- What refusal 22 lets pass, as facts; the refusals of a recording; and that a recorded shift is a shift.
 use mathlib.Core.Path.{_≡_, refl, sym, ap, _∙_}
-use mathlib.Core.Bool.{Bool, true, false, _&&_, not, false≢true}
+use mathlib.Core.Bool.{Bool, true, false, _&&_, not}
 use mathlib.Core.List.{List, [], _∷_}
-use Prim.Native.Nat.{ℕ, suc, _+_, _-_, _*_, _≤_, _<_, min}
+use Prim.Native.Nat.{ℕ, suc, _+_, _-_, _*_, _≤_, _<_}
 use native.Mathlib.Numerals.{add-one}
 use native.Mathlib.Omega.{arith}
-use lib.Dec.{eqb, ltb, leb}
+use lib.Dec.{eqb, ltb}
 use borrow.Author.Tests.{leb-true, eqb-true, eqb-false, ltb-false, not-false, le-leb, eq-eqb, ne-eqb, lt-ltb, le-ltb}
 use Rattle.model.specs.declared.Refusal.{Refusal}
 use Rattle.model.specs.Choice.{pick}
 use Rattle.model.specs.Limits.{maxFrames, maxHarvest, maxCapacity}
 use Rattle.model.specs.Refusals.{refusal, none, isNone, firstOf, harvestOverLimit, gives, refuses}
-use Rattle.model.specs.Charge.{atHand, frameEnd}
+use Rattle.model.specs.Charge.{frameEnd}
+use Rattle.model.proofs.Tests.{both}
+use Rattle.request.proofs.Order.{firstOf-all}
+use Rattle.request.proofs.Harvest.{harvest-small}
 use Rattle.shift.specs.declared.Shift.{Shift}
-use Rattle.shift.specs.declared.RecordAnswer.{RecordAnswer}
 use Rattle.shift.specs.declared.RecordAnswer.the-variants as recording
 use Rattle.shift.specs.Shift.{isShift, notShift, allRecorded, useTooGreat, recordingRefusals, recordRefusal, recordedBy}
 use Rattle.shift.specs.Says.{RecordSays}
@@ -57,15 +59,15 @@ pub record Sound (s : Shift) : Type 0 where
 -- a record that passes 22 has the facts
 pub sound-of : (s : Shift) → isShift s ≡ true → Sound s
 sound-of s e =
-    let a = first.both _ _ e in
-    let b = first.both _ _ (a .1) in
-    let c = first.both _ _ (b .1) in
-    let d = first.both _ _ (c .1) in
-    let f = first.both _ _ (d .1) in
-    let g = first.both _ _ (f .1) in
-    let h = first.both _ _ (g .1) in
-    let i = first.both _ _ (h .1) in
-    let j = first.both _ _ (i .1) in
+    let a = both _ _ e in
+    let b = both _ _ (a .1) in
+    let c = both _ _ (b .1) in
+    let d = both _ _ (c .1) in
+    let f = both _ _ (d .1) in
+    let g = both _ _ (f .1) in
+    let h = both _ _ (g .1) in
+    let i = both _ _ (h .1) in
+    let j = both _ _ (i .1) in
     record {
       within = leb-true _ _ (a .0);
       some = leb-true _ _ (b .0);
@@ -122,21 +124,17 @@ not-sound s h = go (isShift s) refl
     go true e = absurd (h (sound-of s e))
     go false e = e
 
--- no 22 of a shift
-pub passes : (s : Shift) → isShift s ≡ true → notShift s ≡ none
-passes s e = ap (λ (t : Bool). pick (not t) (refusal 22 0) none) e
+-- past 22
+pub past-22 : (s : Shift) (fs : List Refusal) → isShift s ≡ true → firstOf (notShift s ∷ fs) ≡ firstOf fs
+past-22 s fs e = first.past (notShift s) fs (ap (λ (u : Bool). pick (not u) (refusal 22 0) none) e)
 
--- 22 of any other record
-pub fails : (s : Shift) → isShift s ≡ false → notShift s ≡ refusal 22 0
-fails s e = ap (λ (t : Bool). pick (not t) (refusal 22 0) none) e
+-- no 22 tells a shift
+pub is-shift-of : (s : Shift) → isNone (notShift s) ≡ true → isShift s ≡ true
+is-shift-of s e = not-false (isShift s) (first.untested (not (isShift s)) (refusal 22 0) refl e)
 
--- 20 once the last frame is recorded
-pub all-done : (k n : ℕ) → n ≡ k → allRecorded k n ≡ refusal 20 0
-all-done k n e = ap (λ (t : Bool). pick t (refusal 20 0) none) (eq-eqb n k e)
-
--- no 20 before
-pub some-left : (k n : ℕ) → (n ≡ k → ⊥) → allRecorded k n ≡ none
-some-left k n e = ap (λ (t : Bool). pick t (refusal 20 0) none) (ne-eqb n k e)
+-- no 20 tells that a frame is left
+pub open-frame : (s : Shift) → isNone (allRecorded (s .frames) (s .recorded)) ≡ true → s .recorded ≡ s .frames → ⊥
+open-frame s e = eqb-false (s .recorded) (s .frames) (first.untested (eqb (s .recorded) (s .frames)) (refusal 20 0) refl e)
 
 -- 21 of a use above what is at hand
 pub use-above : (x h u : ℕ) → x + h < u → useTooGreat x h u ≡ refusal 21 (u - (x + h))
@@ -146,38 +144,13 @@ use-above x h u l = ap (λ (t : Bool). pick t (refusal 21 (u - (x + h))) none) (
 pub use-within : (x h u : ℕ) → u ≤ x + h → useTooGreat x h u ≡ none
 use-within x h u l = ap (λ (t : Bool). pick t (refusal 21 (u - (x + h))) none) (le-ltb (x + h) u l)
 
--- the refusals of a recording in their order, each with what holds when it comes
-pub refused-22 : (s : Shift) (h u : ℕ) → isShift s ≡ false → recordRefusal s h u ≡ refusal 22 0
-refused-22 s h u e =
-    first.stops (notShift s) (recordingRefusals (s .frames) (s .recorded) (s .charge) h u) (refusal 22 0) (fails s e) refl
+-- no 21 tells that the use is within what is at hand
+use-enough : (x h u : ℕ) → isNone (useTooGreat x h u) ≡ true → u ≤ x + h
+use-enough x h u e = ltb-false (x + h) u (first.untested (ltb (x + h) u) (refusal 21 (u - (x + h))) refl e)
 
-module _ (s : Shift) (h u : ℕ) (sound : isShift s ≡ true) where
-  pub past-22 : recordRefusal s h u ≡ firstOf (recordingRefusals (s .frames) (s .recorded) (s .charge) h u)
-  past-22 = first.past (notShift s) (recordingRefusals (s .frames) (s .recorded) (s .charge) h u) (passes s sound)
-
-  pub refused-20 : s .recorded ≡ s .frames → recordRefusal s h u ≡ refusal 20 0
-  refused-20 e =
-      past-22 ∙ first.stops (allRecorded (s .frames) (s .recorded)) (harvestOverLimit (suc (s .recorded)) (h ∷ []) ∷ useTooGreat (s .charge) h u ∷ []) (refusal 20 0) (all-done (s .frames) (s .recorded) e) refl
-
-  module _ (more : s .recorded ≡ s .frames → ⊥) where
-    past-20 : recordRefusal s h u ≡ firstOf (harvestOverLimit (suc (s .recorded)) (h ∷ []) ∷ useTooGreat (s .charge) h u ∷ [])
-    past-20 =
-        past-22 ∙ first.past (allRecorded (s .frames) (s .recorded)) (harvestOverLimit (suc (s .recorded)) (h ∷ []) ∷ useTooGreat (s .charge) h u ∷ []) (some-left (s .frames) (s .recorded) more)
-
-    pub refused-6 : maxHarvest < h → recordRefusal s h u ≡ refusal 6 (suc (s .recorded))
-    refused-6 l =
-        past-20 ∙ first.stops (harvestOverLimit (suc (s .recorded)) (h ∷ [])) (useTooGreat (s .charge) h u ∷ []) (refusal 6 (suc (s .recorded))) (first.over-limit (suc (s .recorded)) h l) refl
-
-    module _ (small : h ≤ maxHarvest) where
-      past-6 : recordRefusal s h u ≡ firstOf (useTooGreat (s .charge) h u ∷ [])
-      past-6 =
-          past-20 ∙ first.past (harvestOverLimit (suc (s .recorded)) (h ∷ [])) (useTooGreat (s .charge) h u ∷ []) (first.in-limit (suc (s .recorded)) h small)
-
-      pub refused-21 : s .charge + h < u → recordRefusal s h u ≡ refusal 21 (u - (s .charge + h))
-      refused-21 l = past-6 ∙ first.stops (useTooGreat (s .charge) h u) [] (refusal 21 (u - (s .charge + h))) (use-above (s .charge) h u l) refl
-
-      pub not-refused : u ≤ s .charge + h → recordRefusal s h u ≡ none
-      not-refused l = past-6 ∙ first.past (useTooGreat (s .charge) h u) [] (use-within (s .charge) h u l)
+-- no 21 has P 0
+pub use-none : (x h u : ℕ) → isNone (useTooGreat x h u) ≡ true → useTooGreat x h u ≡ none
+use-none x h u e = use-within x h u (use-enough x h u e)
 
 -- what a recording that is not refused has
 pub record Passed (s : Shift) (h u : ℕ) : Type 0 where
@@ -186,15 +159,6 @@ pub record Passed (s : Shift) (h u : ℕ) : Type 0 where
   pub small : h ≤ maxHarvest
   pub enough : u ≤ s .charge + h
 
--- 6 of one harvest that didn't come
-under-limit : (k h : ℕ) → isNone (harvestOverLimit k (h ∷ [])) ≡ true → h ≤ maxHarvest
-under-limit k h e = go (ltb maxHarvest h) refl
-  where
-    go : (t : Bool) → ltb maxHarvest h ≡ t → h ≤ maxHarvest
-    go true q =
-        absurd (false≢true (ap isNone (sym (first.by k h true q)) ∙ e))
-    go false q = ltb-false maxHarvest h q
-
 -- and it has them
 pub passed : (s : Shift) (h u : ℕ) → isNone (recordRefusal s h u) ≡ true → Passed s h u
 passed s h u e =
@@ -202,17 +166,17 @@ passed s h u e =
     let n = s .recorded in
     let x = s .charge in
     let six = harvestOverLimit (suc n) (h ∷ []) in
-    let a = first.clear (notShift s) (recordingRefusals k n x h u) e in
-    let b = first.clear (allRecorded k n) (six ∷ useTooGreat x h u ∷ []) (a .1) in
-    let c = first.clear six (useTooGreat x h u ∷ []) (b .1) in
-    let d = first.clear (useTooGreat x h u) [] (c .1) in
-    let sound = sound-of s (not-false (isShift s) (first.untested (not (isShift s)) (refusal 22 0) refl (a .0))) in
-    let open-frame : n ≡ k → ⊥ = eqb-false n k (first.untested (eqb n k) (refusal 20 0) refl (b .0)) in
+    let a = firstOf-all (notShift s) (recordingRefusals k n x h u) e in
+    let b = firstOf-all (allRecorded k n) (six ∷ useTooGreat x h u ∷ []) (a .1) in
+    let c = firstOf-all six (useTooGreat x h u ∷ []) (b .1) in
+    let d = firstOf-all (useTooGreat x h u) [] (c .1) in
+    let sound = sound-of s (is-shift-of s (a .0)) in
+    let more = open-frame s (b .0) in
     record {
       sound = sound;
       more = omega arith;
-      small = under-limit (suc n) h (c .0);
-      enough = ltb-false (x + h) u (first.untested (ltb (x + h) u) (refusal 21 (u - (x + h))) refl (d .0));
+      small = harvest-small (suc n) (h ∷ []) (c .0) 0;
+      enough = use-enough x h u (d .0);
     }
 
 -- a recorded shift is a shift
@@ -231,9 +195,9 @@ recorded-sound s h u p =
     }
 
 -- recording's promise, refused
-pub record-refused : (s : Shift) (h u : ℕ) (f : Refusal) → f ≡ recordRefusal s h u → (f .number ≡ 0 → ⊥) → RecordSays s h u (recording.Refused f s)
+pub record-refused : (s : Shift) (h u : ℕ) (f : Refusal) → f ≡ recordRefusal s h u → isNone f ≡ false → RecordSays s h u (recording.Refused f s)
 record-refused s h u f e n =
-    let no : isNone (recordRefusal s h u) ≡ false = ap isNone (sym e) ∙ ne-eqb (f .number) 0 n in
+    let no : isNone (recordRefusal s h u) ≡ false = ap isNone (sym e) ∙ n in
     record {
       answer = ap refuses e ∙ sym (first.refused (recordRefusal s h u) (recordedBy s h u) no);
       shift = sym (first.other (isNone (recordRefusal s h u)) (recordedBy s h u) s no);

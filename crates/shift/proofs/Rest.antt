@@ -4,53 +4,23 @@ use mathlib.Core.Bool.{Bool, true, false, not, false≢true}
 use mathlib.Core.List.{List, [], _∷_, _++_}
 use Prim.Native.Nat.{ℕ, suc, _+_, _-_, _*_, _≤_, _<_}
 use native.Mathlib.Omega.{arith}
-use lib.Dec.{eqb, ltb}
-use lib.ListN.{length, take, drop, length-drop, take-append-drop}
+use lib.Dec.{eqb}
+use lib.ListN.{length, getD, take, drop, length-drop, take-append-drop}
 use lib.Seq.{take-all}
-use borrow.Author.Tests.{eqb-true, eqb-false, not-false, eq-eqb, ne-eqb}
+use borrow.Author.Tests.{eq-eqb, ne-eqb}
 use Rattle.model.specs.declared.Refusal.{Refusal}
 use Rattle.model.specs.Choice.{pick}
-use Rattle.model.specs.Refusals.{refusal, none, isNone, refuseIf, firstOf, wrongLength, harvestOverLimit}
+use Rattle.model.specs.Limits.{maxHarvest}
+use Rattle.model.specs.Refusals.{isNone, refuseIf, firstOf, wrongLength, harvestOverLimit}
+use Rattle.request.proofs.Order.{firstOf-append, firstOf-all, firstOf-both, firstOf-one}
+use Rattle.request.proofs.Harvest.{over-none, harvest-small}
+use Rattle.request.proofs.Within.{length-within}
 use Rattle.shift.specs.declared.Shift.{Shift}
 use Rattle.shift.specs.Shift.{isShift, notShift, allRecorded}
-use Rattle.shift.specs.Rest.{partRefusal}
+use Rattle.shift.specs.Rest.{partRefusal, readyRefusals, restRefusal}
 use Rattle.shift.specs.Says.{PartSays}
 use Rattle.shift.proofs.First as first
-use Rattle.shift.proofs.Record as law
-
--- 7 of a list of another length than K
-pub wrong-length : (k n : ℕ) → (n ≡ k → ⊥) → wrongLength k n ≡ refusal 7 0
-wrong-length k n e = ap (λ (t : Bool). pick (not t) (refusal 7 0) none) (ne-eqb n k e)
-
--- no 7 of one of length K
-pub right-length : (k n : ℕ) → n ≡ k → wrongLength k n ≡ none
-right-length k n e = ap (λ (t : Bool). pick (not t) (refusal 7 0) none) (eq-eqb n k e)
-
--- the refusals of returning the part, in their order
-module _ (s : Shift) (b : ℕ) where
-  pub part-22 : isShift s ≡ false → partRefusal s b ≡ refusal 22 0
-  part-22 e =
-      first.stops (notShift s) (wrongLength (s .frames) b ∷ allRecorded (s .frames) (s .recorded) ∷ []) (refusal 22 0) (law.fails s e) refl
-
-  module _ (sound : isShift s ≡ true) where
-    part-past-22 : partRefusal s b ≡ firstOf (wrongLength (s .frames) b ∷ allRecorded (s .frames) (s .recorded) ∷ [])
-    part-past-22 =
-        first.past (notShift s) (wrongLength (s .frames) b ∷ allRecorded (s .frames) (s .recorded) ∷ []) (law.passes s sound)
-
-    pub part-7 : (b ≡ s .frames → ⊥) → partRefusal s b ≡ refusal 7 0
-    part-7 e =
-        part-past-22 ∙ first.stops (wrongLength (s .frames) b) (allRecorded (s .frames) (s .recorded) ∷ []) (refusal 7 0) (wrong-length (s .frames) b e) refl
-
-    module _ (fits : b ≡ s .frames) where
-      part-past-7 : partRefusal s b ≡ firstOf (allRecorded (s .frames) (s .recorded) ∷ [])
-      part-past-7 =
-          part-past-22 ∙ first.past (wrongLength (s .frames) b) (allRecorded (s .frames) (s .recorded) ∷ []) (right-length (s .frames) b fits)
-
-      pub part-20 : s .recorded ≡ s .frames → partRefusal s b ≡ refusal 20 0
-      part-20 e = part-past-7 ∙ first.stops (allRecorded (s .frames) (s .recorded)) [] (refusal 20 0) (law.all-done (s .frames) (s .recorded) e) refl
-
-      pub part-none : (s .recorded ≡ s .frames → ⊥) → partRefusal s b ≡ none
-      part-none e = part-past-7 ∙ first.past (allRecorded (s .frames) (s .recorded)) [] (law.some-left (s .frames) (s .recorded) e)
+use Rattle.shift.proofs.Record.{Sound, sound-of, is-shift-of, open-frame}
 
 -- what a part that is not refused has
 pub record PartOpen (s : Shift) (b : ℕ) : Type 0 where
@@ -59,19 +29,16 @@ pub record PartOpen (s : Shift) (b : ℕ) : Type 0 where
 
 pub part-open : (s : Shift) (b : ℕ) → isNone (partRefusal s b) ≡ true → PartOpen s b
 part-open s b e =
-    let k = s .frames in
-    let n = s .recorded in
-    let x = first.clear (notShift s) (wrongLength k b ∷ allRecorded k n ∷ []) e in
-    let y = first.clear (wrongLength k b) (allRecorded k n ∷ []) (x .1) in
-    let z = first.clear (allRecorded k n) [] (y .1) in
-    let sound = law.sound-of s (not-false (isShift s) (first.untested (not (isShift s)) (refusal 22 0) refl (x .0))) in
-    let open-frame : n ≡ k → ⊥ = eqb-false n k (first.untested (eqb n k) (refusal 20 0) refl (z .0)) in
-    record {
-      fits = eqb-true b k (not-false (eqb b k) (first.untested (not (eqb b k)) (refusal 7 0) refl (y .0)));
-      more = omega arith;
-    }
+    let seven = wrongLength (s .frames) b in
+    let done = allRecorded (s .frames) (s .recorded) in
+    let x = firstOf-all (notShift s) (seven ∷ done ∷ []) e in
+    let y = firstOf-all seven (done ∷ []) (x .1) in
+    let z = firstOf-all done [] (y .1) in
+    let sound = sound-of s (is-shift-of s (x .0)) in
+    let more = open-frame s (z .0) in
+    record { fits = length-within (s .frames) b (y .0); more = omega arith }
 
--- P of each of them is 0
+-- P of a part's refusal is 0
 pub part-p : (s : Shift) (b : ℕ) → partRefusal s b .p ≡ 0
 part-p s b = go (not (isShift s)) (not (eqb b (s .frames))) (eqb (s .recorded) (s .frames))
   where
@@ -115,10 +82,74 @@ part-returned s b part at o f q d e n =
       p-is = ap (λ (g : Refusal). g .p) e ∙ part-p s (length b);
       contents = d ∙ sym (first.picked (isNone (partRefusal s (length b))) (drop (s .recorded) b) [] ok);
       block = refl;
-      offset = q ∙ sym (ap (λ (t : Bool). at .1 + 4 * pick t (s .recorded) 0) ok);
+      offset = let z = ap (λ (t : Bool). pick t (s .recorded) 0) ok in omega arith;
       rest = λ y. (ap (λ (l : List ℕ). take (s .recorded) b ++ l) d ∙ take-append-drop (s .recorded) b, omega (arith, ap length d, length-drop (s .recorded) b));
     }
 
 -- the part that the slice is: all that is left from place n on
 pub part-is : (n : ℕ) (b : List ℕ) → take (length b - n) (drop n b) ≡ drop n b
 part-is n b = take-all (length b - n) (drop n b) (omega (arith, length-drop n b))
+
+-- what planning has before it looks at the harvests
+pub record Ready (s : Shift) (h b : ℕ) : Type 0 where
+  pub sound : Sound s
+  pub harvest-fits : h ≡ s .frames
+  pub budgets-fit : b ≡ s .frames
+  pub more : s .recorded < s .frames
+
+pub ready : (s : Shift) (h b : ℕ) → isNone (firstOf (readyRefusals s h b)) ≡ true → Ready s h b
+ready s h b e =
+    let k = s .frames in
+    let done = allRecorded k (s .recorded) in
+    let w = firstOf-all (notShift s) (wrongLength k h ∷ wrongLength k b ∷ done ∷ []) e in
+    let x = firstOf-all (wrongLength k h) (wrongLength k b ∷ done ∷ []) (w .1) in
+    let y = firstOf-all (wrongLength k b) (done ∷ []) (x .1) in
+    let z = firstOf-all done [] (y .1) in
+    let sound = sound-of s (is-shift-of s (w .0)) in
+    let more = open-frame s (z .0) in
+    record {
+      sound = sound;
+      harvest-fits = length-within k h (x .0);
+      budgets-fit = length-within k b (y .0);
+      more = omega arith;
+    }
+
+-- refusal 6 over the unrecorded frames
+abbrev pub overLimit : Shift → List ℕ → Refusal
+overLimit s hs = harvestOverLimit (suc (s .recorded)) (drop (s .recorded) hs)
+
+-- the refusals of planning: those before the harvests, then 6
+planning-split :
+    (s : Shift) (hs : List ℕ) (b : ℕ) →
+    restRefusal s hs b
+    ≡ pick (isNone (firstOf (readyRefusals s (length hs) b))) (firstOf (overLimit s hs ∷ [])) (firstOf (readyRefusals s (length hs) b))
+planning-split s hs b = firstOf-append (readyRefusals s (length hs) b) (overLimit s hs ∷ [])
+
+-- one of those before the harvests
+pub rest-stopped :
+    (s : Shift) (hs : List ℕ) (b : ℕ) (f : Refusal) → f ≡ firstOf (readyRefusals s (length hs) b) → isNone f ≡ false → f ≡ restRefusal s hs b
+rest-stopped s hs b f e n =
+    let r = firstOf (readyRefusals s (length hs) b) in
+    e ∙ sym (planning-split s hs b ∙ first.other (isNone r) (firstOf (overLimit s hs ∷ [])) r (ap isNone (sym e) ∙ n))
+
+-- none of them: what 6 says
+pub rest-limited :
+    (s : Shift) (hs : List ℕ) (b : ℕ) → isNone (firstOf (readyRefusals s (length hs) b)) ≡ true → overLimit s hs ≡ restRefusal s hs b
+rest-limited s hs b n =
+    let r = firstOf (readyRefusals s (length hs) b) in
+    sym (planning-split s hs b
+    ∙ first.picked (isNone r) (firstOf (overLimit s hs ∷ [])) r n
+    ∙ firstOf-one (overLimit s hs) (over-none (suc (s .recorded)) (drop (s .recorded) hs)))
+
+-- what a planning that is not refused has
+pub record RestOpen (s : Shift) (hs : List ℕ) (b : ℕ) : Type 0 where
+  pub ready : Ready s (length hs) b
+  pub small : (i : ℕ) → getD (drop (s .recorded) hs) i 0 ≤ maxHarvest
+
+pub rest-open : (s : Shift) (hs : List ℕ) (b : ℕ) → isNone (restRefusal s hs b) ≡ true → RestOpen s hs b
+rest-open s hs b e =
+    let x = firstOf-both (readyRefusals s (length hs) b) (overLimit s hs ∷ []) e in
+    record {
+      ready = ready s (length hs) b (x .0);
+      small = harvest-small (suc (s .recorded)) (drop (s .recorded) hs) (firstOf-all (overLimit s hs) [] (x .1) .0);
+    }

@@ -1,6 +1,6 @@
 -- Demand 3: by induction over the calls, with one invariant. The shift's record is the logbook's, and it passes 22.
 use mathlib.Core.Path.{_≡_, refl, sym, ap, subst, _∙_}
-use mathlib.Core.Bool.{Bool, true, false, _||_, not, false≢true}
+use mathlib.Core.Bool.{Bool, true, false, _||_, not}
 use mathlib.Core.List.{List, [], _∷_, _++_, map}
 use Prim.Native.Nat.{ℕ, zero, suc, _+_, _-_}
 use native.Mathlib.Omega.{arith}
@@ -8,18 +8,16 @@ use lib.Dec.{eqb, ltb}
 use lib.ListN.{length, take, drop}
 use Rattle.model.specs.declared.Refusal.{Refusal}
 use Rattle.model.specs.Choice.{pick}
-use Rattle.model.specs.Limits.{maxHarvest}
-use Rattle.model.specs.Request.{Request, total}
+use Rattle.model.specs.Request.{Request, frameCount, total}
 use Rattle.model.specs.Charge.{frameEnd}
-use Rattle.model.specs.Refusals.{Outcome, gives, refuses, outcome, refusal, none, isNone, firstOf, harvestOverLimit, startRefusal}
+use Rattle.model.specs.Refusals.{gives, refuses, outcome, refusal, isNone, startRefusal}
 use Rattle.shift.specs.declared.Shift.{Shift}
 use Rattle.shift.specs.declared.StartAnswer.{StartAnswer}
-use Rattle.shift.specs.declared.RecordAnswer.{RecordAnswer}
-use Rattle.shift.specs.Shift.{started, isShift, notShift, recordingRefusals, recordRefusal, recordedBy}
-use Rattle.shift.specs.Rest.{Ending, endingOf, restBudgets, restRequest, restRefusal, planningRefusals, writtenFrom, RestMeans}
-use Rattle.shift.specs.Says.{StartSays, startSaid, RecordSays, recordSaid, handedBack, RestSays, restSaid}
+use Rattle.shift.specs.Shift.{started, isShift, recordingRefusals, recordRefusal, recordedBy}
+use Rattle.shift.specs.Rest.{endingOf, restBudgets, restRefusal, planningRefusals, writtenFrom, RestMeans}
+use Rattle.shift.specs.Says.{StartSays, startSaid, handedBack, restSaid}
 use Rattle.shift.specs.Logbook.{Logbook, opened, noteRefusal, noted, planningRefusal, openRequest, recordOf}
-use Rattle.shift.specs.Run.{Call, records, plans, Answer, Turn, calls, Says, leaves, Run, shiftAfter, Told, recorded, planned, told, allTold, due, logged, logAfter, allDue, Entry, entered, history, harvests, uses, losses, MeansBy, AllMean, isNumber, tells, comesUp, Moment, Demand3, ShiftDemand}
+use Rattle.shift.specs.Run.{Call, records, plans, Answer, Turn, calls, Says, leaves, Run, shiftAfter, recorded, told, allTold, due, logged, logAfter, allDue, Entry, entered, history, harvests, uses, losses, MeansBy, AllMean, isNumber, tells, comesUp, Moment, Demand3, ShiftDemand}
 use Rattle.shift.proofs.First as first
 use Rattle.shift.proofs.Record as law
 
@@ -33,13 +31,11 @@ pub record Step (l : Logbook) (c : Call) (a : Answer c) : Type 0 where
 
 -- the refusal of a recording is the logbook's
 note-refusal : (l : Logbook) (h u : ℕ) → isShift (recordOf l) ≡ true → recordRefusal (recordOf l) h u ≡ noteRefusal l h u
-note-refusal l h u e = law.past-22 (recordOf l) h u e
+note-refusal l h u e = law.past-22 (recordOf l) (recordingRefusals (frameCount (l .of)) (l .count) (l .charge) h u) e
 
 -- the refusal of a planning is the logbook's
 planning-refusal : (l : Logbook) (hs : List ℕ) (b : ℕ) → isShift (recordOf l) ≡ true → restRefusal (recordOf l) hs b ≡ planningRefusal l hs b
-planning-refusal l hs b e =
-    let s = recordOf l in
-    first.past (notShift s) (planningRefusals (s .frames) (s .recorded) hs b) (law.passes s e)
+planning-refusal l hs b e = law.past-22 (recordOf l) (planningRefusals (frameCount (l .of)) (l .count) hs b) e
 
 -- a choice of logbooks and the choice of their records
 record-pick : (t : Bool) (l m : Logbook) → pick t (recordOf l) (recordOf m) ≡ recordOf (pick t l m)
@@ -94,36 +90,6 @@ follows l i (t ∷ ts) r =
       is-shift = f .is-shift;
     }
 
--- none of a list of refusals has number n
-abbrev pub Without : ℕ → List Refusal → Type 0
-Without n [] = Unit {0}
-Without n (f ∷ fs) = (eqb (f .number) n ≡ false) × Without n fs
-
--- then the first hasn't either
-first-without : (n : ℕ) → eqb 0 n ≡ false → (fs : List Refusal) → Without n fs → eqb (firstOf fs .number) n ≡ false
-first-without n z [] w = z
-first-without n z (f ∷ fs) w = go (isNone f) (first-without n z fs (w .1)) (w .0)
-  where
-    go : (t : Bool) → eqb (firstOf fs .number) n ≡ false → eqb (f .number) n ≡ false → eqb (pick t (firstOf fs) f .number) n ≡ false
-    go true e d = e
-    go false e d = d
-
--- a refusal by a test
-test-without : (n : ℕ) (t : Bool) (g : Refusal) → eqb 0 n ≡ false → eqb (g .number) n ≡ false → eqb (pick t g none .number) n ≡ false
-test-without n true g z e = e
-test-without n false g z e = z
-
--- 6 has its own number
-harvest-without : (n k : ℕ) (hs : List ℕ) → eqb 0 n ≡ false → eqb 6 n ≡ false → eqb (harvestOverLimit k hs .number) n ≡ false
-harvest-without n k [] z e = z
-harvest-without n k (h ∷ hs) z e = go (ltb maxHarvest h) (harvest-without n (suc k) hs z e)
-  where
-    go :
-        (t : Bool) → eqb (harvestOverLimit (suc k) hs .number) n ≡ false →
-        eqb (elim t as (λ _. Refusal) [ true ↦ refusal 6 k | false ↦ harvestOverLimit (suc k) hs ] .number) n ≡ false
-    go true d = e
-    go false d = d
-
 -- an outcome whose refusal has another number
 outcome-without : {A : Type 0} (n : ℕ) (f : Refusal) (v : A) → eqb (f .number) n ≡ false → isNumber n (outcome f v) ≡ false
 outcome-without n f v e = go (isNone f)
@@ -137,23 +103,23 @@ due-without : (l : Logbook) (c : Call) → tells 22 (due l c) ≡ false
 due-without l (records h u) =
     let k = length (l .of .harvest) in
     outcome-without 22 (noteRefusal l h u) (recordOf (noted l h u))
-    (first-without 22 refl (recordingRefusals k (l .count) (l .charge) h u) (
-      test-without 22 (eqb (l .count) k) (refusal 20 0) refl refl,
+    (first.first-without 22 refl (recordingRefusals k (l .count) (l .charge) h u) (
+      first.test-without 22 (eqb (l .count) k) (refusal 20 0) refl refl,
       (
-        harvest-without 22 (suc (l .count)) (h ∷ []) refl refl,
-        (test-without 22 (ltb (l .charge + h) u) (refusal 21 (u - (l .charge + h))) refl refl, tt),
+        first.harvest-without 22 (suc (l .count)) (h ∷ []) refl refl,
+        (first.test-without 22 (ltb (l .charge + h) u) (refusal 21 (u - (l .charge + h))) refl refl, tt),
       ),
     ))
 due-without l (plans hs b) =
     let k = length (l .of .harvest) in
     outcome-without 22 (planningRefusal l hs (length b)) (endingOf (openRequest l hs))
-    (first-without 22 refl (planningRefusals k (l .count) hs (length b)) (
-      test-without 22 (not (eqb (length hs) k)) (refusal 7 0) refl refl,
+    (first.first-without 22 refl (planningRefusals k (l .count) hs (length b)) (
+      first.test-without 22 (not (eqb (length hs) k)) (refusal 7 0) refl refl,
       (
-        test-without 22 (not (eqb (length b) k)) (refusal 7 0) refl refl,
+        first.test-without 22 (not (eqb (length b) k)) (refusal 7 0) refl refl,
         (
-          test-without 22 (eqb (l .count) k) (refusal 20 0) refl refl,
-          (harvest-without 22 (suc (l .count)) (drop (l .count) hs) refl refl, tt),
+          first.test-without 22 (eqb (l .count) k) (refusal 20 0) refl refl,
+          (first.harvest-without 22 (suc (l .count)) (drop (l .count) hs) refl refl, tt),
         ),
       ),
     ))

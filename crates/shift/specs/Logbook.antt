@@ -1,5 +1,5 @@
 -- The logbook of demand 3: kept from the calls' typed figures alone, beside the shift.
-use mathlib.Core.List.{List, [], _∷_}
+use mathlib.Core.List.{List}
 use Prim.Native.Nat.{ℕ, suc, _+_}
 use lib.ListN.{drop}
 use Rattle.model.specs.declared.Refusal.{Refusal}

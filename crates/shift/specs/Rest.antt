@@ -28,6 +28,11 @@ planningRefusals k n hs b =
 abbrev pub restRefusal : Shift → List ℕ → ℕ → Refusal
 restRefusal s hs b = firstOf (notShift s ∷ planningRefusals (s .frames) (s .recorded) hs b)
 
+-- what of them is checked before the harvests are looked at: 22, 7, 20, with h harvests
+abbrev pub readyRefusals : Shift → ℕ → ℕ → List Refusal
+readyRefusals s h b =
+    notShift s ∷ wrongLength (s .frames) h ∷ wrongLength (s .frames) b ∷ allRecorded (s .frames) (s .recorded) ∷ []
+
 -- returning the rest's part of b budgets: 22, 7, 20
 abbrev pub partRefusal : Shift → ℕ → Refusal
 partRefusal s b = firstOf (notShift s ∷ wrongLength (s .frames) b ∷ allRecorded (s .frames) (s .recorded) ∷ [])

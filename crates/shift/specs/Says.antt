@@ -1,15 +1,15 @@
 -- What the entries of a shift promise: the answer and every lent list by an equation, then what the answer means.
 use mathlib.Core.Path.{_≡_}
-use mathlib.Core.Bool.{Bool, true, false}
-use mathlib.Core.List.{List, [], _∷_, _++_}
-use Prim.Native.Nat.{ℕ, _+_, _*_, _≤_, _<_}
+use mathlib.Core.Bool.{true, false}
+use mathlib.Core.List.{List, [], _++_}
+use Prim.Native.Nat.{ℕ, _+_, _*_, _<_}
 use lib.ListN.{length, take, drop}
-use Rattle.model.specs.declared.Refusal.{Refusal}
 use Rattle.model.specs.Choice.{pick}
 use Rattle.model.specs.Request.{Request, request}
 use Rattle.model.specs.Refusals.{Outcome, gives, refuses, outcome, isNone, startRefusal}
 use Rattle.model.specs.Charge.{feasible}
 use Rattle.model.specs.Reward.{IsPlan}
+use Rattle.model.specs.Plan.{planOf}
 use Rattle.shift.specs.declared.Shift.{Shift}
 use Rattle.shift.specs.declared.StartAnswer.{StartAnswer}
 use Rattle.shift.specs.declared.StartAnswer.the-variants as start
@@ -29,8 +29,11 @@ startSaid (start.Refused f) = refuses f
 pub record StartSays (q : Request) (a : StartAnswer) : Type 0 where
   -- the started shift, or the first refusal of 1, 2, 3, 4, 5, 6, 9
   pub answer : startSaid a ≡ outcome (startRefusal q) (started q)
-  -- a shift that is handed over is one
+  -- a shift that is handed over is one, and its frames can be served
   pub is-shift : isNone (startRefusal q) ≡ true → isShift (started q) ≡ true
+  pub reachable : isNone (startRefusal q) ≡ true → IsPlan q (planOf q)
+  -- with refusal 9 no assignment is feasible
+  pub unreachable : startRefusal q .number ≡ 9 → (bs : List ℕ) → feasible q bs ≡ false
 
 -- what recording's answer says in document 01's terms
 abbrev pub recordSaid : RecordAnswer → Outcome Shift

@@ -1,7 +1,7 @@
 -- `Shift::record` meets its promise, refused and recorded.
 use mathlib.Core.Path.{_≡_, sym, ap, _∙_}
 use mathlib.Core.Bool.{true}
-use borrow.Author.Tests.{eq-eqb}
+use borrow.Author.Tests.{not-true, not-false}
 use Rattle.model.specs.Refusals.{isNone}
 use Rattle.shift.specs.Shift.{recordRefusal}
 use Rattle.shift.proofs.Record as law
@@ -11,13 +11,19 @@ use Rattle.shift.proofs.Shift.record.Tie as tie
 
 -- past the test there is no refusal
 clear : (c : tie.Else1) → let s = c .before .before .before .args in isNone (recordRefusal (s .self) (s .harvest) (s .used)) ≡ true
-clear c = let f = c .before .before .record-refusal in ap isNone (sym (f .ensures)) ∙ eq-eqb (f .result .number) 0 (c .if1 .left)
+clear c =
+    ap isNone (sym (c .before .before .record-refusal .ensures))
+    ∙ sym (c .before .is-none .ensures)
+    ∙ not-false (c .before .is-none .result) (c .if1 .left)
 
 record-refusal-requires : tie.Need-record-refusal-requires
 record-refusal-requires c κs = search needs
 
+is-none-requires : tie.Need-is-none-requires
+is-none-requires c κs = search needs
+
 returns : tie.Need-returns
-returns c = let s = c .before .before .before .args in let f = c .before .before .record-refusal in law.record-refused (s .self) (s .harvest) (s .used) (f .result) (f .ensures) (c .if1 .taken)
+returns c = let s = c .before .before .before .args in let f = c .before .before .record-refusal in law.record-refused (s .self) (s .harvest) (s .used) (f .result) (f .ensures) (sym (c .before .is-none .ensures) ∙ not-true (c .before .is-none .result) (c .if1 .taken))
 
 recorded-by-requires : tie.Need-recorded-by-requires
 recorded-by-requires c κs = clear c
@@ -26,4 +32,6 @@ returns-2 : tie.Need-returns-2
 returns-2 c = let s = c .before .before .before .before .args in law.record-done (s .self) (s .harvest) (s .used) (c .recorded-by .result) (clear (c .before)) (c .recorded-by .ensures)
 
 pub record-spec : {M : Type 1} → statement M
-record-spec = tie.close (tie.spec record-refusal-requires returns recorded-by-requires returns-2)
+record-spec =
+    tie.close
+    (tie.spec record-refusal-requires is-none-requires returns recorded-by-requires returns-2)

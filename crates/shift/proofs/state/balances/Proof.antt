@@ -2,8 +2,8 @@
 use mathlib.Core.Path.{sym}
 use Rattle.shift.proofs.Record as law
 use borrow.Author.Needs.{needs}
-use Rattle.shift.proofs.balances.Statement.{statement}
-use Rattle.shift.proofs.balances.Tie as tie
+use Rattle.shift.proofs.state.balances.Statement.{statement}
+use Rattle.shift.proofs.state.balances.Tie as tie
 
 add-income : tie.Need-add-income
 add-income c = search needs
