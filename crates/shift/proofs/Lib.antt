@@ -3,4 +3,5 @@ pub mod First
 pub mod Record
 pub mod Started
 pub mod Rest
+pub mod Planned
 pub mod Run

@@ -4,9 +4,10 @@ use mathlib.Core.Bool.{Bool, true, false, not, false≢true}
 use mathlib.Core.List.{List, [], _∷_, _++_}
 use Prim.Native.Nat.{ℕ, suc, _+_, _-_, _*_, _≤_, _<_}
 use native.Mathlib.Omega.{arith}
+use native.Mathlib.Numerals.{add-one}
 use lib.Dec.{eqb}
-use lib.ListN.{length, getD, take, drop, length-drop, take-append-drop}
-use lib.Seq.{take-all}
+use lib.ListN.{length, getD, set, take, drop, replicate, length-drop, take-append-drop, replicate-append-replicate}
+use lib.Seq.{take-all, take-suc-set}
 use borrow.Author.Tests.{eq-eqb, ne-eqb}
 use Rattle.model.specs.declared.Refusal.{Refusal}
 use Rattle.model.specs.Choice.{pick}
@@ -153,3 +154,15 @@ rest-open s hs b e =
       ready = ready s (length hs) b (x .0);
       small = harvest-small (suc (s .recorded)) (drop (s .recorded) hs) (firstOf-all (overLimit s hs) [] (x .1) .0);
     }
+
+-- one more entry cleared
+pub cleared-more : (l : List ℕ) (i : ℕ) → i < length l → take i l ≡ replicate i 0 → take (i + 1) (set l i 0) ≡ replicate (i + 1) 0
+cleared-more l i h e =
+    ap (λ (n : ℕ). take n (set l i 0)) (add-one i)
+    ∙ take-suc-set l i 0 h
+    ∙ ap (λ (xs : List ℕ). xs ++ (0 ∷ [])) e
+    ∙ replicate-append-replicate i 1 0
+
+-- all entries cleared
+pub cleared : (l : List ℕ) (i n : ℕ) → length l ≡ n → n ≤ i → i ≤ n → take i l ≡ replicate i 0 → l ≡ replicate n 0
+cleared l i n p q r e = let z : i ≡ n = omega arith in sym (take-all i l (omega arith)) ∙ e ∙ ap (λ (m : ℕ). replicate m 0) z

@@ -5,10 +5,12 @@ ghost use denote.Ref.{ptr};
 ghost use Rattle.model.specs.Request.{request};
 ghost use Rattle.model.specs.Refusals.{isNone};
 ghost use Rattle.shift.specs.Shift.{recordRefusal, recordedBy};
-ghost use Rattle.shift.specs.Says.{StartSays, RecordSays, PartSays};
+ghost use Rattle.shift.specs.Says.{StartSays, RecordSays, RestSays, PartSays};
 use model::Refusal;
+use pace::plan::plan_into;
 use request::refusals::is_none;
 
+pub mod clear;
 pub mod frame;
 pub mod refusals;
 pub mod state;
@@ -96,6 +98,35 @@ impl Shift {
         }
         RecordAnswer::Recorded(self.recorded_by(harvest, used))
     }
+}
+
+// Plans the rest of a shift by the harvests lent. The unrecorded part of the budgets is lent on, to be filled with the plan, or with
+// zeros where the rest is short.
+pub fn plan_rest(shift: Shift, harvest: &[u32], budgets: &mut [u32]) -> RestAnswer
+    ensures { λ r. ⌜ RestSays shift (now (harvest .entry)) (now (budgets .entry)) (now (budgets .exit)) r ⌝ }
+{
+    let refusal = refusals::rest_refusal(shift, harvest, budgets.len());
+    if !is_none(refusal) {
+        return RestAnswer::Refused(refusal);
+    }
+    let from = shift.recorded as usize;
+    let charge = shift.charge as u64;
+    let end = shift.end as u64;
+    let rest = &harvest[from..];
+    let most = charge + request::sums::sum(rest);
+    if most < end {
+        clear::clear(&mut budgets[from..]);
+        return RestAnswer::Short(end - most);
+    }
+    plan_into(
+        shift.capacity as u64,
+        charge,
+        end,
+        most,
+        rest,
+        &mut budgets[from..],
+    );
+    RestAnswer::Planned
 }
 
 // The part of the budgets that begins at the next frame, lying where they lie. The refusal goes to the lent number and P, both 0
