@@ -7,3 +7,4 @@ pub mod plan;
 pub mod scan;
 pub mod search;
 pub mod step;
+pub mod survey;

@@ -1,8 +1,9 @@
-// The search for a budget where no pace is known: all there is first, then the budget that makes the event just seen
-// exact, and after a few such tries the middle.
+// The search for a budget where no pace is known: all there is first, then the survey's guess and one unit more, then the
+// budget that makes the event just seen exact, and after a few such tries the middle.
 use super::frame::draw;
 use super::frame::lesser;
 use super::scan::scan;
+use super::survey::survey;
 ghost use Prim.Native.Nat.{_-_, _≤_, _<_, _^_};
 ghost use lib.ListN.{length};
 ghost use Rattle.model.specs.Plan.{framesOf};
@@ -35,6 +36,30 @@ fn guess(good: u64, top: u64, hint: u64, tries: u64) -> u64
     draw(good + 1, top, hint)
 }
 
+// What to try after a refusal: the survey's guess if it was the first try.
+fn lower(
+    capacity: u64,
+    end: u64,
+    most: u64,
+    harvest: &[u32],
+    next: usize,
+    have: u64,
+    tries: u64,
+    hint: u64,
+) -> u64
+    requires { ⌜ Small capacity most × (have ≤ 2 ^ 33) × (next ≤ length (now harvest)) ⌝ }
+{
+    if tries == TRIES {
+        return survey(capacity, end, most, harvest, next, have);
+    }
+    hint
+}
+
+// What to try after an acceptance: the least that is left to try if it was the survey's guess.
+fn higher(tries: u64, hint: u64) -> u64 {
+    if tries == TRIES - 1 { 0 } else { hint }
+}
+
 // Tries one budget of the range.
 fn narrow(
     capacity: u64,
@@ -58,15 +83,25 @@ fn narrow(
             good: g,
             spare: found.spare,
             top: at.top,
-            hint: found.hint,
+            hint: higher(at.tries, found.hint),
             tries: tries,
         };
     }
+    let hint = lower(
+        capacity,
+        end,
+        most,
+        harvest,
+        next,
+        have,
+        at.tries,
+        found.hint,
+    );
     Range {
         good: at.good,
         spare: at.spare,
         top: g - 1,
-        hint: found.hint,
+        hint: hint,
         tries: tries,
     }
 }

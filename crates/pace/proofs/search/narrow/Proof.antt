@@ -22,14 +22,20 @@ sub-scan-2 c = search needs
 scan-requires : tie.Need-scan-requires
 scan-requires c κs = search needs
 
-returns : tie.Need-returns
-returns c = let g = c .before .before .before .before in let s = g .before .before in (law.accepts (s .pre .4) (g .guess .ensures .0) (g .guess .ensures .1) (c .before .scan .ensures) (c .if1 .taken), omega arith)
+higher-requires : tie.Need-higher-requires
+higher-requires c κs = search needs
 
-sub-t13 : tie.Need-sub-t13
-sub-t13 c = search needs
+returns : tie.Need-returns
+returns c = let f = c .before .before in let g = f .before .before .before in let s = g .before .before in (law.accepts (s .pre .4) (g .guess .ensures .0) (g .guess .ensures .1) (f .scan .ensures) (c .before .if1 .taken), omega (arith, g .guess .ensures))
+
+lower-requires : tie.Need-lower-requires
+lower-requires c κs = search needs
+
+sub-t14 : tie.Need-sub-t14
+sub-t14 c = search needs
 
 returns-2 : tie.Need-returns-2
-returns-2 c = let g = c .before .before .before .before in let s = g .before .before in (law.rejects (s .pre .4) (g .guess .ensures .0) (g .guess .ensures .1) (c .before .scan .ensures) (c .if1 .left), omega arith)
+returns-2 c = let f = c .before .before in let g = f .before .before .before in let s = g .before .before in (law.rejects (s .pre .4) (g .guess .ensures .0) (g .guess .ensures .1) (f .scan .ensures) (c .before .if1 .left), omega (arith, g .guess .ensures))
 
 pub narrow-spec : {M : Type 1} → statement M
 narrow-spec =
@@ -41,6 +47,8 @@ narrow-spec =
     sub-scan
     sub-scan-2
     scan-requires
+    higher-requires
     returns
-    sub-t13
+    lower-requires
+    sub-t14
     returns-2)
