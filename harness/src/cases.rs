@@ -102,7 +102,10 @@ impl fmt::Display for Shift {
             used,
             lost,
         } = self;
-        write!(f, "{frames} {recorded} {capacity} {start} {end} {charge} {harvested} {used} {lost}")
+        write!(
+            f,
+            "{frames} {recorded} {capacity} {start} {end} {charge} {harvested} {used} {lost}"
+        )
     }
 }
 
@@ -212,7 +215,9 @@ impl<'a> Words<'a> {
         let word = self.word()?;
         let digits = word.strip_prefix('x').filter(|d| d.len() % 2 == 0 && d.is_ascii());
         let digits = digits.ok_or_else(|| "bytes are x and pairs of digits".to_string())?;
-        let pairs = (0..digits.len()).step_by(2).map(|i| u8::from_str_radix(&digits[i..i + 2], 16));
+        let pairs = (0..digits.len())
+            .step_by(2)
+            .map(|i| u8::from_str_radix(&digits[i..i + 2], 16));
         pairs.collect::<Result<_, _>>().map_err(|error| error.to_string())
     }
 

@@ -112,7 +112,9 @@ fn check_write(energy: &dyn Energy, figures: Figures, harvest: &[u32], room: usi
         return Ok(());
     };
     let mut back = vec![OLD_BUDGET; harvest.len() + 3];
-    let read = energy.read(&file[..length], &mut back).map_err(|refusal| format!("reads back: {refusal}"))?;
+    let read = energy
+        .read(&file[..length], &mut back)
+        .map_err(|refusal| format!("reads back: {refusal}"))?;
     same("figures read back", read.figures, figures)?;
     same("frames read back", read.frames as usize, harvest.len())?;
     same("harvests read back", &back[..harvest.len()], harvest)?;
@@ -171,7 +173,11 @@ fn check_run(energy: &dyn Energy, figures: Figures, harvest: &[u32], calls: &[Ca
         match call {
             Call::Record { harvest, used } => {
                 let answer = energy.shift_record(shift, *harvest, *used);
-                same(&what, answer.map(|_| ()).map_err(|not| not.refusal), log.record(*harvest, *used))?;
+                same(
+                    &what,
+                    answer.map(|_| ()).map_err(|not| not.refusal),
+                    log.record(*harvest, *used),
+                )?;
                 shift = answer.unwrap_or_else(|not| not.shift);
             }
             Call::Rest { harvest, budgets } => {
@@ -184,8 +190,16 @@ fn check_run(energy: &dyn Energy, figures: Figures, harvest: &[u32], calls: &[Ca
                 given.resize(*budgets, OLD_BUDGET);
                 expected.resize(*budgets, OLD_BUDGET);
                 let part = energy.shift_rest_part(shift, &given);
-                same(&what, part.map(|part| position(part, &given)), log.rest_part(given.len()))?;
-                same(&what, part.unwrap_or(&[]), log.rest_part(given.len()).map_or(&[], |from| &expected[from..]))?;
+                same(
+                    &what,
+                    part.map(|part| position(part, &given)),
+                    log.rest_part(given.len()),
+                )?;
+                same(
+                    &what,
+                    part.unwrap_or(&[]),
+                    log.rest_part(given.len()).map_or(&[], |from| &expected[from..]),
+                )?;
             }
         }
         same(&format!("{what}, the record"), shift, log.record_now())?;

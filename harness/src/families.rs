@@ -75,7 +75,11 @@ fn daily_sun(frames: usize, most: u32, random: &mut Random) -> Vec<u32> {
         if hour == 0 {
             day = 40 + random.up_to(60);
         }
-        let light = if (24..72).contains(&hour) { (hour - 24) * (71 - hour) } else { 0 };
+        let light = if (24..72).contains(&hour) {
+            (hour - 24) * (71 - hour)
+        } else {
+            0
+        };
         let clear = day - random.up_to(20);
         harvest.push((u64::from(most) * light * clear / (24 * 24 * 100)) as u32);
     }
@@ -117,7 +121,11 @@ impl Size {
 /// Where nothing is harvested, the store starts full, at most with all frames' worth, and may end empty.
 pub fn request(family: Family, size: Size, frames: usize, most: u32, random: &mut Random) -> (Figures, Vec<u32>) {
     let harvest = family.harvest(frames, most, random);
-    let capacity = if family == Family::ZeroCapacity { 0 } else { size.capacity(most) };
+    let capacity = if family == Family::ZeroCapacity {
+        0
+    } else {
+        size.capacity(most)
+    };
     let half = (capacity / 2).min(most * 4);
     let (start, end) = match family {
         Family::StartChargeOnly => (capacity.min(most.saturating_mul(frames as u32)), 0),

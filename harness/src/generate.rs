@@ -30,7 +30,9 @@ fn harvest(frames: usize, random: &mut Random) -> Vec<u32> {
     let family: Family = *random.pick(&FAMILIES);
     let mut list = match random.up_to(3) {
         0 => family.harvest(frames, most, random),
-        1 => (0..frames).map(|_| if random.one_in(3) { random.up_to_u32(most) } else { 0 }).collect(),
+        1 => (0..frames)
+            .map(|_| if random.one_in(3) { random.up_to_u32(most) } else { 0 })
+            .collect(),
         _ => random.list(frames, most),
     };
     if frames > 0 && random.one_in(12) {
@@ -46,7 +48,7 @@ fn near(limit: u32, random: &mut Random) -> u32 {
         0 => limit,
         1 => limit.saturating_add(1),
         2 => limit.saturating_sub(1),
-        _ => random.next() as u32,
+        _ => random.bits() as u32,
     }
 }
 
@@ -132,7 +134,7 @@ fn call(shift: &Shift, lent: &[u32], random: &mut Random) -> Call {
             let have = u64::from(shift.charge) + u64::from(harvest);
             let used = match random.up_to(9) {
                 0 => have + random.up_to(2),
-                1 => random.next() & 0xffff_ffff,
+                1 => random.bits() & 0xffff_ffff,
                 2 | 3 => have,
                 4 => 0,
                 _ => random.up_to(have),
@@ -170,7 +172,9 @@ fn run(random: &mut Random) -> Case {
 fn on(random: &mut Random) -> Case {
     let harvest = harvest(1 + frames(random).min(30), random);
     let figures = figures(&harvest, random);
-    let mut shift = Reference.shift_start(figures, &harvest).unwrap_or_else(|_| balanced(&harvest, random));
+    let mut shift = Reference
+        .shift_start(figures, &harvest)
+        .unwrap_or_else(|_| balanced(&harvest, random));
     for &h in harvest.iter().take(random.up_to(harvest.len() as u64) as usize) {
         let used = random.up_to(u64::from(shift.charge) + u64::from(h)) as u32;
         shift = Reference.shift_record(shift, h, used).unwrap_or(shift);
@@ -235,7 +239,7 @@ fn file(random: &mut Random) -> Vec<u8> {
     match random.up_to(9) {
         0 => {
             let length = random.up_to(40) as usize;
-            (0..length).map(|_| random.next() as u8).collect()
+            (0..length).map(|_| random.bits() as u8).collect()
         }
         1 => likely_words(random),
         2 => sized_file(random),
@@ -298,10 +302,14 @@ fn damage(bytes: &mut Vec<u8>, random: &mut Random) {
     let place = random.up_to(last as u64) as usize;
     match random.up_to(5) {
         0 => bytes[place] ^= 1 << random.up_to(7),
-        1 => bytes[place] = random.next() as u8,
+        1 => bytes[place] = random.bits() as u8,
         2 => bytes.truncate(place),
         3 => bytes.extend(std::iter::repeat_n(0, 1 + random.up_to(8) as usize)),
-        4 => bytes.iter_mut().skip(place | 3).take(1).for_each(|byte| *byte = byte.wrapping_add(0x40)),
+        4 => bytes
+            .iter_mut()
+            .skip(place | 3)
+            .take(1)
+            .for_each(|byte| *byte = byte.wrapping_add(0x40)),
         _ => {
             let (a, b) = (place / 4 * 4, random.up_to(last as u64) as usize / 4 * 4);
             if a.max(b) + 4 <= bytes.len() {
@@ -340,7 +348,11 @@ fn planning(random: &mut Random) -> Case {
 
 /// Calls that take no planning, at the limit of the frames more often: tracing, grading, writing.
 fn plain(random: &mut Random) -> Case {
-    let frames = if random.one_in(100) { MAX_FRAMES + random.up_to(1) as usize } else { frames(random) };
+    let frames = if random.one_in(100) {
+        MAX_FRAMES + random.up_to(1) as usize
+    } else {
+        frames(random)
+    };
     let harvest = harvest(frames, random);
     let figures = figures(&harvest, random);
     match random.up_to(4) {
@@ -370,7 +382,11 @@ fn read(random: &mut Random) -> Case {
 
 /// Listing a file.
 fn listing(random: &mut Random) -> Case {
-    let room = if random.one_in(50) { LISTING_BYTES - 1 } else { LISTING_BYTES };
+    let room = if random.one_in(50) {
+        LISTING_BYTES - 1
+    } else {
+        LISTING_BYTES
+    };
     Case::Listing {
         file: file(random),
         room,

@@ -16,12 +16,12 @@ impl Random {
     /// The generator of a run's case: each case can be made without those before it.
     pub fn of_case(seed: u64, case: u64) -> Random {
         let mut random = Random(seed);
-        let mixed = random.next();
+        let mixed = random.bits();
         Random(mixed ^ case.wrapping_mul(0xd134_2543_de82_ef95))
     }
 
     /// The next 64 bits.
-    pub fn next(&mut self) -> u64 {
+    pub fn bits(&mut self) -> u64 {
         self.0 = self.0.wrapping_add(0x9e37_79b9_7f4a_7c15);
         let mut z = self.0;
         z = (z ^ (z >> 30)).wrapping_mul(0xbf58_476d_1ce4_e5b9);
@@ -32,8 +32,8 @@ impl Random {
     /// A number from 0 to `most`.
     pub fn up_to(&mut self, most: u64) -> u64 {
         match most.checked_add(1) {
-            Some(count) => self.next() % count,
-            None => self.next(),
+            Some(count) => self.bits() % count,
+            None => self.bits(),
         }
     }
 

@@ -23,17 +23,17 @@ fn compare(first: u64, count: u64, generator: fn(&mut Random) -> Case) {
 
 #[test]
 fn calls_of_every_kind() {
-    compare(1_000_000, 30_000, any_case);
+    compare(1_000_000, 150_000, any_case);
 }
 
 #[test]
 fn shifts_with_refused_calls() {
-    compare(2_000_000, 6_000, any_run);
+    compare(2_000_000, 40_000, any_run);
 }
 
 #[test]
 fn random_mutated_and_truncated_files() {
-    compare(3_000_000, 8_000, any_file_case);
+    compare(3_000_000, 60_000, any_file_case);
 }
 
 /// What the reference answers to a case, as a word for the coverage.

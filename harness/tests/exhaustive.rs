@@ -8,15 +8,13 @@ use energy_harness::reference::{needed as needs, plan as plans, refusals};
 use energy_harness::types::{Figures, Refusal};
 use energy_harness::under_test;
 
-/// A small valid request, its end charge within reach or not.
-fn small_request(random: &mut Random, energy: u32) -> (Figures, Vec<u32>) {
-    let frames = 1 + random.up_to(4) as usize;
+/// A small valid request of at most so many frames and so much harvest in all; its end charge is within reach or not.
+fn small_request(random: &mut Random, frames: u64, energy: u32) -> (Figures, Vec<u32>) {
+    let frames = 1 + random.up_to(frames - 1);
     let capacity = random.up_to_u32(energy);
-    let mut harvest = vec![0; frames];
+    let mut harvest = vec![0; frames as usize];
     for _ in 0..random.up_to(energy.into()) {
-        *harvest
-            .get_mut(random.up_to(frames as u64 - 1) as usize)
-            .expect("a frame") += 1;
+        harvest[random.up_to(frames - 1) as usize] += 1;
     }
     let figures = Figures {
         capacity,
@@ -39,10 +37,10 @@ fn named(figures: Figures, harvest: &[u32], case: u64) -> String {
     )
 }
 
-#[test]
-fn the_plan_is_the_one_that_all_levels_name() {
-    for case in 0..40_000 {
-        let (figures, harvest) = small_request(&mut Random::of_case(seed(), case), 9);
+/// The plan by every implementation and by both independent methods against the search.
+fn plans_are_named_by_all_levels(cases: std::ops::Range<u64>, frames: u64, energy: u32) {
+    for case in cases {
+        let (figures, harvest) = small_request(&mut Random::of_case(seed(), case), frames, energy);
         let case = named(figures, &harvest, case);
         let (capacity, start, end) = (figures.capacity.into(), figures.start.into(), figures.end.into());
         let all = feasible_assignments(capacity, start, end, &harvest);
@@ -83,9 +81,19 @@ fn the_plan_is_the_one_that_all_levels_name() {
 }
 
 #[test]
+fn the_plan_is_the_one_that_all_levels_name() {
+    plans_are_named_by_all_levels(0..60_000, 5, 9);
+}
+
+#[test]
+fn the_plan_is_the_one_that_all_levels_name_with_more_frames() {
+    plans_are_named_by_all_levels(60_000..62_000, 7, 13);
+}
+
+#[test]
 fn the_plan_is_best_for_every_qualifying_table_up_to_a_size() {
-    for case in 100_000..104_000 {
-        let (figures, harvest) = small_request(&mut Random::of_case(seed(), case), 7);
+    for case in 100_000..110_000 {
+        let (figures, harvest) = small_request(&mut Random::of_case(seed(), case), 5, 7);
         if refusals::plan(figures, &harvest, harvest.len()).is_err() {
             continue;
         }
@@ -112,8 +120,8 @@ fn the_plan_is_best_for_every_qualifying_table_up_to_a_size() {
 
 #[test]
 fn the_needed_capacity_is_the_least_that_serves_every_table() {
-    for case in 200_000..204_000 {
-        let (figures, harvest) = small_request(&mut Random::of_case(seed(), case), 7);
+    for case in 200_000..210_000 {
+        let (figures, harvest) = small_request(&mut Random::of_case(seed(), case), 5, 7);
         let Figures { start, end, .. } = figures;
         let case = named(figures, &harvest, case);
         if refusals::needed(start, end, &harvest).is_err() {
@@ -149,8 +157,8 @@ fn the_needed_capacity_is_the_least_that_serves_every_table() {
 
 #[test]
 fn the_plan_wastes_nothing_and_its_charges_are_the_lowest() {
-    for case in 300_000..304_000 {
-        let (figures, harvest) = small_request(&mut Random::of_case(seed(), case), 8);
+    for case in 300_000..310_000 {
+        let (figures, harvest) = small_request(&mut Random::of_case(seed(), case), 5, 8);
         let (capacity, start, end) = (figures.capacity.into(), figures.start.into(), figures.end.into());
         if refusals::plan(figures, &harvest, harvest.len()).is_err() {
             continue;

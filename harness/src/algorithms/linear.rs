@@ -38,7 +38,11 @@ pub fn program(figures: Figures, harvest: &[u32]) -> String {
 
 /// The solver's optimum; nothing if glpsol is not installed or its answer cannot be read.
 pub fn optimum(figures: Figures, harvest: &[u32]) -> io::Result<Option<f64>> {
-    let known = Command::new("glpsol").arg("--version").stdout(Stdio::null()).stderr(Stdio::null()).status();
+    let known = Command::new("glpsol")
+        .arg("--version")
+        .stdout(Stdio::null())
+        .stderr(Stdio::null())
+        .status();
     if known.is_err() {
         return Ok(None);
     }
@@ -53,7 +57,11 @@ pub fn optimum(figures: Figures, harvest: &[u32]) -> io::Result<Option<f64>> {
         .arg(&output)
         .stdout(Stdio::null())
         .status()?;
-    let report = if status.success() { std::fs::read_to_string(&output)? } else { String::new() };
+    let report = if status.success() {
+        std::fs::read_to_string(&output)?
+    } else {
+        String::new()
+    };
     std::fs::remove_dir_all(&directory)?;
     Ok(objective(&report))
 }
@@ -70,7 +78,10 @@ mod tests {
 
     #[test]
     fn a_report_is_read() {
-        assert_eq!(objective("Status:     OPTIMAL\nObjective:  worth = 320 (MAXimum)\n"), Some(320.0));
+        assert_eq!(
+            objective("Status:     OPTIMAL\nObjective:  worth = 320 (MAXimum)\n"),
+            Some(320.0)
+        );
         assert_eq!(objective(""), None);
     }
 

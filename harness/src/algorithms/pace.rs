@@ -113,7 +113,9 @@ impl Store<'_> {
 
     /// The budget of a known pace: the level, or one more as long as there is spare.
     fn go_on(&self, next: usize, have: u64, pace: Pace) -> Pace {
-        let Pace { level, spare, exact, .. } = pace;
+        let Pace {
+            level, spare, exact, ..
+        } = pace;
         if exact || have <= level {
             return at_level(have, level);
         }

@@ -30,7 +30,10 @@ fn extend(capacity: u64, charge: u64, end: u64, harvest: &[u32], budgets: &mut V
 /// The best feasible reward by each table.
 pub fn best_rewards(all: &[Vec<u32>], tables: &[Table]) -> Vec<i64> {
     let best = |table: &Table| all.iter().map(|budgets| table.earned(budgets)).max();
-    tables.iter().map(|table| best(table).expect("something is feasible")).collect()
+    tables
+        .iter()
+        .map(|table| best(table).expect("something is feasible"))
+        .collect()
 }
 
 /// The plan: of the assignments best for every table given, the one that takes more at the first difference.
@@ -38,7 +41,12 @@ pub fn best_rewards(all: &[Vec<u32>], tables: &[Table]) -> Vec<i64> {
 pub fn plan(all: &[Vec<u32>], tables: &[Table]) -> Option<Vec<u32>> {
     let best = best_rewards(all, tables);
     all.iter()
-        .filter(|budgets| tables.iter().zip(&best).all(|(table, &most)| table.earned(budgets) == most))
+        .filter(|budgets| {
+            tables
+                .iter()
+                .zip(&best)
+                .all(|(table, &most)| table.earned(budgets) == most)
+        })
         .max()
         .cloned()
 }

@@ -1,7 +1,7 @@
 //! The needed capacity: by its definition over plans, and by the source's formula.
 
 use super::charge::walk;
-use super::plan::by_filling;
+use super::plan::{by_filling, by_reserve};
 
 /// The most frames for which the definition is fast enough.
 const FEW_FRAMES: usize = 40;
@@ -11,7 +11,8 @@ pub fn needed(start: u64, end: u64, harvest: &[u32]) -> u64 {
     if harvest.len() <= FEW_FRAMES {
         by_definition(start, end, harvest)
     } else {
-        by_peak(start, end, harvest, &by_filling(boundless(start, end, harvest), start, end, harvest))
+        let open_plan = by_reserve(boundless(start, end, harvest), start, end, harvest);
+        by_peak(start, end, harvest, &open_plan)
     }
 }
 

@@ -26,8 +26,8 @@ pub fn start(figures: Figures, harvest: &[u32]) -> Result<Shift, Refusal> {
 /// 22: a record that isn't one.
 fn is_shift(s: &Shift) -> Checked {
     let frames = s.frames as usize;
-    let balance = u128::from(s.start) + u128::from(s.harvested)
-        == u128::from(s.charge) + u128::from(s.used) + u128::from(s.lost);
+    let balance =
+        u128::from(s.start) + u128::from(s.harvested) == u128::from(s.charge) + u128::from(s.used) + u128::from(s.lost);
     let good = s.recorded <= s.frames
         && (1..=MAX_FRAMES).contains(&frames)
         && s.capacity <= MAX_CAPACITY

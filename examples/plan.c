@@ -1,0 +1,53 @@
+/* Plans document 01's request, records a frame that went otherwise, and plans the rest again.
+ * Build: cc -Iinclude examples/plan.c target/staticlib/libenergy.a -o plan_c */
+#include <inttypes.h>
+#include <stdio.h>
+
+#include "energy.h"
+
+/* Prints a label and the budgets. */
+static void print_budgets(const char *label, const uint32_t *budgets, size_t count)
+{
+    printf("%s:", label);
+    for (size_t i = 0; i < count; i++)
+        printf(" %" PRIu32, budgets[i]);
+    printf("\n");
+}
+
+/* Prints a refusal and gives the program's exit status. */
+static int refused(uint32_t number, uint64_t p)
+{
+    printf("refused %" PRIu32 " %" PRIu64 "\n", number, p);
+    return 1;
+}
+
+int main(void)
+{
+    const uint32_t harvest[6] = {6, 4, 0, 0, 5, 5};
+    uint32_t budgets[6] = {0};
+
+    struct EnergyPlanAnswer plan = energy_plan(5, 2, 2, harvest, 6, budgets, 6);
+    if (plan.number != 0)
+        return refused(plan.number, plan.p);
+    print_budgets("plan", budgets, 6);
+
+    struct EnergyNeededAnswer needed = energy_needed(2, 2, harvest, 6);
+    if (needed.number != 0)
+        return refused(needed.number, needed.p);
+    printf("needed: %" PRIu64 "\n", needed.capacity);
+
+    struct EnergyShiftAnswer start = energy_shift_start(5, 2, 2, harvest, 6);
+    if (start.number != 0)
+        return refused(start.number, start.p);
+    struct EnergyShiftAnswer next = energy_shift_record(start.shift, 1, 3);
+    if (next.number != 0)
+        return refused(next.number, next.p);
+    struct EnergyRestAnswer rest = energy_shift_plan_rest(next.shift, harvest, 6, budgets, 6);
+    if (rest.number != 0)
+        return refused(rest.number, rest.p);
+    struct EnergyPartAnswer part = energy_shift_rest_part(next.shift, budgets, 6);
+    if (part.number != 0)
+        return refused(part.number, part.p);
+    print_budgets("rest", budgets + part.from, part.length);
+    return 0;
+}

@@ -1,0 +1,210 @@
+/* Gomzhiva, the blending-room energy planner: the C interface of libenergy.a.
+ *
+ * A request has a capacity, a start charge, an end charge and a harvest for each of K frames, in whole watt-hours.
+ * After a frame with harvest h and budget e the charge is the smaller of the capacity and (charge before + h - e);
+ * what exceeds the capacity is lost. A plan is a budget for each frame: feasible, best for every concave reward table
+ * at once, and of those the one that takes more at the first difference.
+ *
+ * Every answer begins with `number`, 0 if the call was accepted, and `p`, 0 unless named:
+ *
+ *    1  no frames
+ *    2  more than ENERGY_MAX_FRAMES frames, or a file above ENERGY_MAX_FILE_BYTES
+ *    3  capacity above 1,000,000,000 (energy_needed: start or end above it)
+ *    4  start above capacity
+ *    5  end above capacity
+ *    6  a harvest above 400,000; p is the earliest such frame, from 1
+ *    7  a list whose length is not K, or one too short for the file or the text
+ *    8  a malformed file; p is the word's place, from 0
+ *    9  start plus all harvest is below the end charge; p is the amount missing
+ *   20  every frame is recorded already
+ *   21  use greater than charge plus harvest; p is the excess
+ *   22  a shift record that isn't one
+ *
+ * A refused call alters no list, and the other fields of its answer are 0, save where a comment below says otherwise.
+ *
+ * A list is a pointer and then its length in entries. It must be aligned and valid for that length, and not null even
+ * where the length is 0. A list that a call writes must not overlap another list of the same call. No call keeps a
+ * pointer, allocates, or touches anything but its lists, so calls on different lists may run at the same time.
+ */
+#ifndef ENERGY_H
+#define ENERGY_H
+
+#include <stddef.h>
+#include <stdint.h>
+
+#ifdef __cplusplus
+extern "C" {
+#endif
+
+/* The most frames of a request. */
+#define ENERGY_MAX_FRAMES 2976
+
+/* The most bytes of a word file. */
+#define ENERGY_MAX_FILE_BYTES 11920
+
+/* Room for any listing. */
+#define ENERGY_LISTING_BYTES 81920
+
+/* The bytes of the word file of a request of k frames. */
+#define ENERGY_FILE_BYTES(k) (4 * ((k) + 4))
+
+/* The tracer's verdicts. */
+#define ENERGY_FEASIBLE 0
+#define ENERGY_END_TOO_LOW 1
+#define ENERGY_BELOW_ZERO 2
+
+struct EnergyPlanAnswer {
+    uint32_t number;
+    uint64_t p;
+};
+
+/* capacity: the needed capacity; it may exceed the limit on capacities. */
+struct EnergyNeededAnswer {
+    uint32_t number;
+    uint64_t p;
+    uint64_t capacity;
+};
+
+/* verdict: ENERGY_FEASIBLE, ENERGY_END_TOO_LOW or ENERGY_BELOW_ZERO.
+ * frame: with ENERGY_BELOW_ZERO the earliest frame, from 1, whose charge is below zero; otherwise 0. */
+struct EnergyTraceAnswer {
+    uint32_t number;
+    uint64_t p;
+    uint32_t verdict;
+    uint32_t frame;
+};
+
+/* The sums of house curves 0, 1 and 2. */
+struct EnergyGradeAnswer {
+    uint32_t number;
+    uint64_t p;
+    uint64_t curve0;
+    uint64_t curve1;
+    uint64_t curve2;
+};
+
+/* A shift's record: K, frames recorded, capacity, start and end charge, present charge, and the totals so far. */
+struct EnergyShift {
+    uint32_t frames;
+    uint32_t recorded;
+    uint32_t capacity;
+    uint32_t start;
+    uint32_t end;
+    uint32_t charge;
+    uint64_t harvested;
+    uint64_t used;
+    uint64_t lost;
+};
+
+struct EnergyShiftAnswer {
+    uint32_t number;
+    uint64_t p;
+    struct EnergyShift shift;
+};
+
+/* is_short: 1 if no assignment of the rest is feasible, and then missing is end less charge less remaining harvest. */
+struct EnergyRestAnswer {
+    uint32_t number;
+    uint64_t p;
+    uint32_t is_short;
+    uint64_t missing;
+};
+
+/* The part of the budgets from index `from` on, `length` entries. */
+struct EnergyPartAnswer {
+    uint32_t number;
+    uint64_t p;
+    uint64_t from;
+    uint64_t length;
+};
+
+/* frames: the file's count of harvests, K. */
+struct EnergyReadAnswer {
+    uint32_t number;
+    uint64_t p;
+    uint32_t capacity;
+    uint32_t start;
+    uint32_t end;
+    uint32_t frames;
+};
+
+/* bytes: how many bytes were written. */
+struct EnergyWriteAnswer {
+    uint32_t number;
+    uint64_t p;
+    uint64_t bytes;
+};
+
+/* number and p: the refusal that the text states, 0 if it is a plan. bytes: how many bytes were written. */
+struct EnergyListingAnswer {
+    uint32_t number;
+    uint64_t p;
+    uint64_t bytes;
+};
+
+/* Writes the plan of a request into `budgets`, which has an entry for each harvest.
+ * Refuses 1, 2, 7, 3, 4, 5, 6, 9, in this order. */
+struct EnergyPlanAnswer energy_plan(uint32_t capacity, uint32_t start, uint32_t end,
+                                    const uint32_t *harvest, size_t harvest_length,
+                                    uint32_t *budgets, size_t budgets_length);
+
+/* The least capacity, at least start and end, with which every concave reward table is served as well as with
+ * unlimited storage. Refuses 1, 2, 3, 6, 9. */
+struct EnergyNeededAnswer energy_needed(uint32_t start, uint32_t end,
+                                        const uint32_t *harvest, size_t harvest_length);
+
+/* Writes the charge after each frame under any budgets into `charges`, below zero included, and judges the budgets.
+ * Refuses 1, 2, 7 (either list), 3, 4, 5, 6. */
+struct EnergyTraceAnswer energy_trace(uint32_t capacity, uint32_t start, uint32_t end,
+                                      const uint32_t *harvest, size_t harvest_length,
+                                      const uint32_t *budgets, size_t budgets_length,
+                                      int64_t *charges, size_t charges_length);
+
+/* Grades any budgets by the three house curves. Refuses 1, 2. */
+struct EnergyGradeAnswer energy_grade(const uint32_t *budgets, size_t budgets_length);
+
+/* Starts a shift from a request. Refuses 1, 2, 3, 4, 5, 6, 9. */
+struct EnergyShiftAnswer energy_shift_start(uint32_t capacity, uint32_t start, uint32_t end,
+                                            const uint32_t *harvest, size_t harvest_length);
+
+/* Records the actual harvest and use of the next frame, and hands the shift back as it stands after that frame.
+ * Refuses 22, 20, 6 (p is the frame being recorded), 21; the answer's shift is then the one given. */
+struct EnergyShiftAnswer energy_shift_record(struct EnergyShift shift, uint32_t harvest, uint32_t used);
+
+/* Writes the plan of the frames not yet recorded into `budgets`, from the next frame to the last; earlier entries keep
+ * their values. Both lists have K entries. If nothing is feasible, is_short is 1 and those budgets become 0.
+ * Refuses 22, 7, 20, 6 over the frames not yet recorded. */
+struct EnergyRestAnswer energy_shift_plan_rest(struct EnergyShift shift,
+                                               const uint32_t *harvest, size_t harvest_length,
+                                               uint32_t *budgets, size_t budgets_length);
+
+/* Where the part of `budgets` (K entries) that begins at the next frame lies. Refuses 22, 7, 20. */
+struct EnergyPartAnswer energy_shift_rest_part(struct EnergyShift shift,
+                                               const uint32_t *budgets, size_t budgets_length);
+
+/* Reads a word file: its figures into the answer, its harvests into `harvest`, whose surplus keeps its values.
+ * Refuses 2 (the file's size), 8, 2 (its frames), 7 if `harvest` is too short; it checks nothing else. */
+struct EnergyReadAnswer energy_read(const uint8_t *file, size_t file_length,
+                                    uint32_t *harvest, size_t harvest_length);
+
+/* Writes the word file of a request into `file`, ENERGY_FILE_BYTES(K) bytes; its surplus keeps its values.
+ * Refuses 1, 2, 7 if `file` is too short, 3, 4, 5, 6. */
+struct EnergyWriteAnswer energy_write(uint32_t capacity, uint32_t start, uint32_t end,
+                                      const uint32_t *harvest, size_t harvest_length,
+                                      uint8_t *file, size_t file_length);
+
+/* Writes what the plan program prints for a word file into `text`: the plan's lines, or `refused`, the number and p;
+ * the surplus of `text` keeps its values. The text has room for ENERGY_LISTING_BYTES, and the other three lists, which
+ * are working room, for ENERGY_MAX_FRAMES each: with less in any of them nothing is altered, bytes is 0 and number 7.
+ * After a plan the working lists begin with its harvests, budgets and charges; after a refusal their contents are open. */
+struct EnergyListingAnswer energy_listing(const uint8_t *file, size_t file_length,
+                                          uint32_t *harvest, size_t harvest_length,
+                                          uint32_t *budgets, size_t budgets_length,
+                                          int64_t *charges, size_t charges_length,
+                                          uint8_t *text, size_t text_length);
+
+#ifdef __cplusplus
+}
+#endif
+
+#endif
