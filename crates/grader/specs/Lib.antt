@@ -1,0 +1,2 @@
+-- What grading promises.
+pub mod Says
