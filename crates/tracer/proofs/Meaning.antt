@@ -2,29 +2,26 @@
 use mathlib.Core.Path.{_≡_, refl, sym, ap, subst, _∙_}
 use mathlib.Core.Bool.{Bool, true, false, false≢true}
 use mathlib.Core.List.{List}
-use Prim.Native.Nat.{ℕ, suc, _≤_}
+use Prim.Native.Nat.{ℕ, suc, _≤_, _<_}
 use native.Mathlib.Omega.{arith}
 use lib.Dec.{leb}
 use lib.IntN.{ℤ, pos}
-use lib.Signed.{leZ}
-use lib.ListN.{length}
+use lib.Signed.{leZ, nonNeg}
+use lib.ListN.{length, getD}
+use borrow.Author.Tests.{leb-false}
 use Rattle.model.specs.declared.Refusal.{Refusal}
 use Rattle.model.specs.Choice.{pick}
 use Rattle.model.specs.Request.{Request, frameCount}
 use Rattle.model.specs.Refusals.{gives, refuses, isNone, traceRefusal}
 use Rattle.model.specs.Trace.{below-zero, end-too-low, is-feasible, belowFrom, lastFrom, trace, verdict}
 use Rattle.model.proofs.Trace as model
-use Rattle.request.proofs.Order.{pick-by}
+use Rattle.request.proofs.Order.{apart, pick-by}
 use Rattle.request.proofs.Within.{trace-within}
 use Rattle.tracer.specs.declared.TraceAnswer.{TraceAnswer}
 use Rattle.tracer.specs.declared.TraceAnswer.the-variants.{Feasible, EndTooLow, BelowZero, Refused}
 use Rattle.tracer.specs.Says.{said, judged, EarliestBelow, TraceSays}
 use Rattle.tracer.proofs.Frames.{trace-length}
-use Rattle.tracer.proofs.Search.{last-any}
-
--- different answers are different
-apart : {A : Type 0} → _≡_ {A = ℕ} 0 1 → A
-apart e = let b : ⊥ = omega arith in absurd b
+use Rattle.tracer.proofs.Search.{last-any, none-below}
 
 -- a refusal alters nothing and is answered
 pub refused : (q : Request) (bs : List ℕ) (xs : List ℤ) (f : Refusal) → f ≡ traceRefusal q (length bs) (length xs) → isNone f ≡ false → TraceSays q bs xs xs (Refused f)
@@ -37,6 +34,7 @@ refused q bs xs f p e =
       feasible = λ h. absurd (false≢true (sym n ∙ h));
       feasible-charges = λ h. apart (cc);
       earliest = λ k h. apart (cc);
+      too-low = λ h. apart (cc);
     }
 
 -- the answer that the charges earn is the verdict that they earn
@@ -69,6 +67,25 @@ earliest-of q bs ys k u p =
     subst (λ (zs : List ℤ). (i : ℕ) × (k ≡ suc i) × EarliestBelow i zs) (sym p)
     (b .0, b .1, record { not-last = b .2 .not-last; below = b .2 .below; before = b .2 .before })
 
+-- the two tests behind "end too low"
+low-by : (k : ℕ) (s t : Bool) → pick s (below-zero k) (pick t is-feasible end-too-low) ≡ end-too-low → (s ≡ false) × (t ≡ false)
+low-by k true t e = apart (cc)
+low-by k false true e = apart (cc)
+low-by k false false e = (refl, refl)
+
+-- "end too low" says that none but the last is below zero, and that the last is below the end charge
+too-low-of : (q : Request) (bs : List ℕ) (ys : List ℤ) → verdict q bs ≡ end-too-low → ys ≡ trace q bs
+    → ((j : ℕ) → suc j < length ys → nonNeg (getD ys j (pos 0)) ≡ true) × (leZ (pos (q .end)) (lastFrom (pos (q .start)) ys) ≡ false)
+too-low-of q bs ys u p =
+    let zs = trace q bs in
+    let k = belowFrom 1 zs in
+    let l = low-by k (leb 1 k) (leZ (pos (q .end)) (lastFrom (pos (q .start)) zs)) u in
+    let n : k < 1 = leb-false 1 k (l .0) in
+    subst
+    (λ (xs : List ℤ). ((j : ℕ) → suc j < length xs → nonNeg (getD xs j (pos 0)) ≡ true) × (leZ (pos (q .end)) (lastFrom (pos (q .start)) xs) ≡ false))
+    (sym p)
+    (none-below 0 zs (omega arith), l .1)
+
 -- where nothing is refused, the charges of the trace and the answer that they earn keep the promise
 pub traced : (q : Request) (bs : List ℕ) (xs ys : List ℤ) (r : TraceAnswer) → isNone (traceRefusal q (length bs) (length xs)) ≡ true
     → ys ≡ trace q bs → r ≡ judged (q .end) ys → TraceSays q bs xs ys r
@@ -84,4 +101,5 @@ traced q bs xs ys r n p e =
       feasible = λ h. ((λ a. m .0 (cc)), (λ a. said-feasible r (v ∙ ap gives (m .1 a))));
       feasible-charges = λ a. p ∙ model.trace-charges q bs (m .0 (cc));
       earliest = λ k a. earliest-of q bs ys k (cc) p;
+      too-low = λ a. too-low-of q bs ys (cc) p;
     }

@@ -86,3 +86,16 @@ judged-end e n zs l m fe fz t q =
     (pick-by (leb 1 (belowFrom 1 zs)) false (BelowZero (belowFrom 1 zs)) (pick (leZ (pos e) (lastFrom (pos 0) zs)) Feasible EndTooLow)
     (lt-leb 1 (belowFrom 1 zs) l)
     ∙ pick-by (leZ (pos e) (lastFrom (pos 0) zs)) t Feasible EndTooLow last)
+
+-- where no frame is found, none but the last is below zero
+pub none-below : (k : ℕ) (zs : List ℤ) → belowFrom (suc k) zs ≡ 0 → (j : ℕ) → suc j < length zs → nonNeg (getD zs j (pos 0)) ≡ true
+none-below k [] e j l = let b : ⊥ = omega arith in absurd b
+none-below k (z ∷ []) e j l = let b : ⊥ = omega arith in absurd b
+none-below k (z ∷ (y ∷ zs)) e j l = go (nonNeg z) refl e (none-below (suc k) (y ∷ zs)) j l
+  where
+    go : (t : Bool) → nonNeg z ≡ t → _≡_ {A = ℕ} (elim t as (λ _. ℕ) [ true ↦ belowFrom (suc (suc k)) (y ∷ zs) | false ↦ suc k ]) 0
+        → (belowFrom (suc (suc k)) (y ∷ zs) ≡ 0 → (i : ℕ) → suc i < length (y ∷ zs) → nonNeg (getD (y ∷ zs) i (pos 0)) ≡ true)
+        → (i : ℕ) → suc i < length (z ∷ (y ∷ zs)) → nonNeg (getD (z ∷ (y ∷ zs)) i (pos 0)) ≡ true
+    go true q h ih zero m = q
+    go true q h ih (suc i) m = ih h i (omega arith)
+    go false q h ih i m = let b : ⊥ = omega arith in absurd b

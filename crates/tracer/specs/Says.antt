@@ -44,3 +44,5 @@ pub record TraceSays (q : Request) (bs : List ℕ) (xs ys : List ℤ) (r : Trace
   pub feasible-charges : r ≡ Feasible → ys ≡ map pos (C.charges q bs)
   -- a frame named is the earliest below zero
   pub earliest : (n : ℕ) → r ≡ BelowZero n → (i : ℕ) × (n ≡ suc i) × EarliestBelow i ys
+  -- "end too low": none but the last is below zero, and the last is below the end charge
+  pub too-low : r ≡ EndTooLow → ((j : ℕ) → suc j < length ys → nonNeg (getD ys j (pos 0)) ≡ true) × (leZ (pos (q .end)) (lastFrom (pos (q .start)) ys) ≡ false)
