@@ -83,17 +83,24 @@ pub append-without : (n : ℕ) (fs gs : List Refusal) → Without n fs → Witho
 append-without n [] gs v w = w
 append-without n (f ∷ fs) gs v w = (v .0, append-without n fs gs (v .1) w)
 
--- where only the last refusal can have number n, it has it
-pub only-last : (n : ℕ) (fs : List Refusal) (g : Refusal) → eqb 0 n ≡ false → Without n fs → eqb (firstOf (fs ++ (g ∷ [])) .number) n ≡ true → eqb (g .number) n ≡ true
-only-last n [] g z w e = go (isNone g) e
+-- where only one refusal of a list can have number n, it has it
+pub only-at :
+    (n : ℕ) (fs : List Refusal) (g : Refusal) (gs : List Refusal) → eqb 0 n ≡ false → Without n fs → Without n gs →
+    eqb (firstOf (fs ++ (g ∷ gs)) .number) n ≡ true → eqb (g .number) n ≡ true
+only-at n [] g gs z v w e = go (isNone g) e
   where
-    go : (t : Bool) → eqb (pick t none g .number) n ≡ true → eqb (g .number) n ≡ true
-    go true q = absurd (false≢true (sym z ∙ q))
+    go : (t : Bool) → eqb (pick t (firstOf gs) g .number) n ≡ true → eqb (g .number) n ≡ true
+    go true q = absurd (false≢true (sym (first-without n z gs w) ∙ q))
     go false q = q
-only-last n (f ∷ fs) g z w e = go (isNone f) (only-last n fs g z (w .1)) e
+only-at n (f ∷ fs) g gs z v w e = go (isNone f) (only-at n fs g gs z (v .1) w) e
   where
     go :
-        (t : Bool) → (eqb (firstOf (fs ++ (g ∷ [])) .number) n ≡ true → eqb (g .number) n ≡ true) →
-        eqb (pick t (firstOf (fs ++ (g ∷ []))) f .number) n ≡ true → eqb (g .number) n ≡ true
+        (t : Bool) → (eqb (firstOf (fs ++ (g ∷ gs)) .number) n ≡ true → eqb (g .number) n ≡ true) →
+        eqb (pick t (firstOf (fs ++ (g ∷ gs))) f .number) n ≡ true → eqb (g .number) n ≡ true
     go true ih q = ih q
-    go false ih q = absurd (false≢true (sym (w .0) ∙ q))
+    go false ih q = absurd (false≢true (sym (v .0) ∙ q))
+
+-- a test whose refusal has come holds
+pub tested : (n : ℕ) (t : Bool) (g : Refusal) → eqb 0 n ≡ false → eqb (pick t g none .number) n ≡ true → t ≡ true
+tested n true g z e = refl
+tested n false g z e = absurd (false≢true (sym z ∙ e))

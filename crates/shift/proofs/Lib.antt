@@ -5,3 +5,4 @@ pub mod Started
 pub mod Rest
 pub mod Planned
 pub mod Run
+pub mod Impostors

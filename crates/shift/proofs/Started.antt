@@ -1,16 +1,15 @@
 -- Start's promise: what is handed over passes 22 and has a plan; with refusal 9 nothing is feasible.
 use mathlib.Core.Path.{_≡_, refl, sym, ap, _∙_}
-use mathlib.Core.Bool.{Bool, true, false, false≢true}
-use mathlib.Core.List.{List, _++_}
+use mathlib.Core.Bool.{true, false}
+use mathlib.Core.List.{List, [], _++_}
 use Prim.Native.Nat.{ℕ, _-_, _<_}
 use native.Mathlib.Omega.{arith}
 use lib.Dec.{eqb, ltb}
 use borrow.Author.Tests.{eq-eqb, ltb-true}
 use Rattle.model.specs.declared.Refusal.{Refusal}
-use Rattle.model.specs.Choice.{pick}
 use Rattle.model.specs.Limits.{maxFrames, maxCapacity}
 use Rattle.model.specs.Request.{Request, frameCount, mostEnergy}
-use Rattle.model.specs.Refusals.{refusal, none, isNone, framesRefusals, figureRefusals, outOfReach, startRefusal, gives, refuses}
+use Rattle.model.specs.Refusals.{refusal, isNone, framesRefusals, figureRefusals, outOfReach, startRefusal, gives, refuses}
 use Rattle.model.specs.Charge.{feasible}
 use Rattle.model.specs.Reward.{IsPlan}
 use Rattle.model.specs.Plan.{planOf}
@@ -48,7 +47,7 @@ started-plan q e =
 
 -- refusal 9 is out of reach, and nothing else is
 pub started-not : (q : Request) → startRefusal q .number ≡ 9 → (bs : List ℕ) → feasible q bs ≡ false
-started-not q e = out-of-reach q (missing (ltb (mostEnergy q) (q .end)) refl (first.only-last 9 before (outOfReach q) refl without nine))
+started-not q e = out-of-reach q missing
   where
     before : List Refusal
     before = framesRefusals (frameCount q) ++ figureRefusals q
@@ -74,9 +73,10 @@ started-not q e = out-of-reach q (missing (ltb (mostEnergy q) (q .end)) refl (fi
     nine : eqb (startRefusal q .number) 9 ≡ true
     nine = eq-eqb (startRefusal q .number) 9 e
 
-    missing : (t : Bool) → ltb (mostEnergy q) (q .end) ≡ t → eqb (pick t (refusal 9 (q .end - mostEnergy q)) none .number) 9 ≡ true → mostEnergy q < q .end
-    missing true d n = ltb-true (mostEnergy q) (q .end) d
-    missing false d n = absurd (false≢true n)
+    missing : mostEnergy q < q .end
+    missing =
+        ltb-true (mostEnergy q) (q .end)
+        (first.tested 9 (ltb (mostEnergy q) (q .end)) (refusal 9 (q .end - mostEnergy q)) refl (first.only-at 9 before (outOfReach q) [] refl without tt nine))
 
 -- start's promise, refused
 pub start-refused : (q : Request) (f : Refusal) → f ≡ startRefusal q → isNone f ≡ false → StartSays q (start.Refused f)

@@ -140,6 +140,6 @@ pub fn rest_part<'a>(shift: Shift, budgets: &'a [u32], number: &mut u32, p: &mut
     if refusal.number != 0 {
         return &budgets[0..0];
     }
-    let from = shift.recorded as usize;
-    &budgets[from..]
+    let next = shift.recorded as usize;
+    &budgets[next..]
 }

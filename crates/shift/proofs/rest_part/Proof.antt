@@ -33,8 +33,8 @@ part-result-end c = search needs
 returns : tie.Need-returns
 returns c = let s = c .before .before .before .before .before .args in let f = c .before .before .before .part-refusal in law.part-refused (s .shift) (s .budgets .now) (s .budgets .ptr) (bySize 4 0 (s .budgets .ptr .1)) (f .result) (omega arith) (f .ensures) (c .before .if1 .taken)
 
-cast-from : tie.Need-cast-from
-cast-from c = search needs
+cast-next : tie.Need-cast-next
+cast-next c = search needs
 
 mul-result : tie.Need-mul-result
 mul-result c = search needs
@@ -60,7 +60,7 @@ rest-part-spec =
     part-result-start
     part-result-end
     returns
-    cast-from
+    cast-next
     mul-result
     sub-result-2
     part-result-start-2
