@@ -2,7 +2,7 @@
 use mathlib.Core.Path.{_≡_}
 use mathlib.Core.List.{List, [], _∷_}
 use lib.IntN.{ℤ, pos, negsuc}
-use Prim.Native.Nat.{ℕ}
+use Prim.Native.Nat.{ℕ, _+_}
 use lib.ListN.{length}
 use Rattle.model.specs.declared.Refusal.{Refusal}
 use Rattle.model.specs.Request.{Request, request, frameCount}
@@ -11,6 +11,9 @@ use Rattle.model.specs.Charge.{charges}
 use Rattle.model.specs.Trace.{trace, Verdict, below-zero, verdict}
 use Rattle.model.specs.Curves.{houseCurve, grade}
 use Rattle.model.specs.Plan.{planOf, neededOf}
+use Rattle.shift.specs.declared.Shift.{Shift}
+use Rattle.shift.specs.Shift.{started, recordRefusal, recordedBy}
+use Rattle.shift.specs.Rest.{restRequest, restRefusal, restBudgets}
 
 pub data Case : Type 0 where
   -- a request and its plan
@@ -25,6 +28,12 @@ pub data Case : Type 0 where
   worths : List ℕ → ℕ → ℕ → ℕ → Case
   -- a request, supplied budgets, their charges and the verdict
   traces : Request → List ℕ → List ℤ → Verdict → Case
+  -- a shift, a recorded harvest and use, the charge that is left and what is lost
+  records : Shift → ℕ → ℕ → ℕ → ℕ → Case
+  -- a shift, a harvest and a use, and the refusal of their recording
+  unrecorded : Shift → ℕ → ℕ → Refusal → Case
+  -- a shift, harvests, and the budgets that planning the rest writes
+  rests : Shift → List ℕ → List ℕ → Case
 
 abbrev pub Holds : Case → Type 0
 Holds (plans r bs) = (planRefusal r (frameCount r) ≡ none) × (planOf r ≡ bs)
@@ -33,6 +42,10 @@ Holds (needs r c) = (neededRefusal r ≡ none) × (neededOf r ≡ c)
 Holds (refused r f) = planRefusal r (frameCount r) ≡ f
 Holds (worths bs x y z) = (grade (houseCurve 0) bs ≡ x) × (grade (houseCurve 1) bs ≡ y) × (grade (houseCurve 2) bs ≡ z)
 Holds (traces r bs zs v) = (trace r bs ≡ zs) × (verdict r bs ≡ v)
+Holds (records s h u x l) =
+    (recordRefusal s h u ≡ none) × (recordedBy s h u .charge ≡ x) × (recordedBy s h u .lost ≡ s .lost + l)
+Holds (unrecorded s h u f) = recordRefusal s h u ≡ f
+Holds (rests s hs bs) = (restRefusal s hs (length hs) ≡ none) × (restBudgets (restRequest s hs) ≡ bs)
 
 abbrev pub AllHold : List Case → Type 0
 AllHold [] = Unit {0}
@@ -41,6 +54,10 @@ AllHold (c ∷ cs) = Holds c × AllHold cs
 -- the request of the listing, with a capacity
 abbrev pub listing : ℕ → Request
 listing c = request c 2 2 (6 ∷ 4 ∷ 0 ∷ 0 ∷ 5 ∷ 5 ∷ [])
+
+-- a shift of one frame with charge 4 and capacity 5
+abbrev pub four : Shift
+four = started (request 5 4 0 (3 ∷ []))
 
 abbrev pub cases : List Case
 cases =
@@ -58,4 +75,8 @@ cases =
     ∷ refused (request 8 3 8 (4 ∷ [])) (refusal 9 1)
     ∷ plans (request 0 0 0 (5 ∷ [])) (5 ∷ [])
     ∷ traces (listing 22) (4 ∷ 4 ∷ 4 ∷ 4 ∷ 2 ∷ 2 ∷ []) (pos 4 ∷ pos 4 ∷ pos 0 ∷ negsuc 3 ∷ negsuc 0 ∷ pos 2 ∷ []) (below-zero 4)
+    ∷ records four 3 7 0 0
+    ∷ unrecorded four 3 8 (refusal 21 1)
+    ∷ records four 3 1 5 1
+    ∷ rests (recordedBy (started (listing 5)) 1 3) (listing 5 .harvest) (2 ∷ 1 ∷ 1 ∷ 4 ∷ 4 ∷ [])
     ∷ []
