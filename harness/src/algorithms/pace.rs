@@ -76,11 +76,13 @@ impl Store<'_> {
     }
 
     /// The greatest budget of a frame that has `have`, and its spare; frames `next..` follow.
+    /// All there is first, then the survey's guess and one unit more, then what would have met the event, then the middle.
     fn search(&self, next: usize, have: u64) -> (u64, u64) {
         let (mut good, mut top, mut spare) = (0, have, 0);
-        let mut trial = have;
         let mut tries = 0;
+        let mut hint = have;
         while good < top {
+            let trial = hint.min(top).max(good + 1);
             let outcome = self.scan(next, have - trial, trial - 1);
             if outcome.goes {
                 good = trial;
@@ -88,12 +90,13 @@ impl Store<'_> {
             } else {
                 top = trial - 1;
             }
-            tries += 1;
-            trial = if tries < 8 {
-                (outcome.hint + 1).min(top).max(good + 1)
-            } else {
-                good + (top - good).div_ceil(2)
+            hint = match (tries, outcome.goes) {
+                (0, false) => survey(self.capacity, self.end, &self.harvest[next..], have),
+                (1, true) => good + 1,
+                (0..=7, _) => outcome.hint + 1,
+                _ => good + (top - good).div_ceil(2),
             };
+            tries += 1;
         }
         (good, spare)
     }
@@ -139,6 +142,35 @@ impl Store<'_> {
             self.set_out(i + 1, have)
         }
     }
+}
+
+/// The greatest budget that, with one unit less in every later frame, takes no more than the sum in so many frames.
+fn even(sum: u64, frames: u64) -> u64 {
+    sum.div_ceil(frames)
+}
+
+/// The budget of a frame that has `have` and is followed by the harvests, from one pass: the least even budget that empties
+/// the store, unless a full store or the end comes before it.
+pub fn survey(capacity: u64, end: u64, harvest: &[u32], have: u64) -> u64 {
+    let (mut sum, mut frames) = (have, 1);
+    let (mut empties, mut fills) = (have, 0);
+    for &h in harvest {
+        if sum > capacity + fills * frames {
+            fills = even(sum - capacity, frames);
+        }
+        if empties <= fills {
+            return empties;
+        }
+        sum += u64::from(h);
+        frames += 1;
+        if sum <= (empties - 1) * frames {
+            empties = even(sum, frames);
+        }
+        if empties <= fills {
+            return fills;
+        }
+    }
+    fills.max(empties.min(even(sum.saturating_sub(end), frames)))
 }
 
 /// Draws the level; one more is refused.

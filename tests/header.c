@@ -1,0 +1,104 @@
+/* Every function of energy.h, called from C on document 01's request; what it prints is compared with header.out. */
+#include <inttypes.h>
+#include <stdio.h>
+#include <string.h>
+
+#include "energy.h"
+
+static const uint32_t harvest[6] = {6, 4, 0, 0, 5, 5};
+
+/* Prints an answer's refusal, if it has one. */
+static void refusal(const char *name, uint32_t number, uint64_t p)
+{
+    printf("%s: %" PRIu32 " %" PRIu64, name, number, p);
+}
+
+/* Prints a shift's record. */
+static void record(struct EnergyShift s)
+{
+    printf(" shift %" PRIu32 " %" PRIu32 " %" PRIu32 " %" PRIu32 " %" PRIu32 " %" PRIu32, s.frames, s.recorded,
+           s.capacity, s.start, s.end, s.charge);
+    printf(" %" PRIu64 " %" PRIu64 " %" PRIu64 "\n", s.harvested, s.used, s.lost);
+}
+
+static void planning(void)
+{
+    uint32_t budgets[6] = {0};
+    struct EnergyPlanAnswer plan = energy_plan(5, 2, 2, harvest, 6, budgets, 6);
+    refusal("plan", plan.number, plan.p);
+    for (int i = 0; i < 6; i++)
+        printf(" %" PRIu32, budgets[i]);
+    plan = energy_plan(8, 3, 8, (const uint32_t[]){4}, 1, budgets, 1);
+    refusal("\nplan", plan.number, plan.p);
+
+    struct EnergyNeededAnswer needed = energy_needed(2, 2, harvest, 6);
+    refusal("\nneeded", needed.number, needed.p);
+    printf(" %" PRIu64, needed.capacity);
+
+    struct EnergyTraceAnswer trace;
+    int64_t charges[6];
+    trace = energy_trace(22, 2, 2, harvest, 6, (const uint32_t[]){4, 4, 4, 4, 2, 2}, 6, charges, 6);
+    refusal("\ntrace", trace.number, trace.p);
+    printf(" %" PRIu32 " %" PRIu32, trace.verdict, trace.frame);
+    for (int i = 0; i < 6; i++)
+        printf(" %" PRId64, charges[i]);
+
+    struct EnergyGradeAnswer grade = energy_grade((const uint32_t[]){4, 3, 3, 2, 4, 4}, 6);
+    refusal("\ngrade", grade.number, grade.p);
+    printf(" %" PRIu64 " %" PRIu64 " %" PRIu64 "\n", grade.curve0, grade.curve1, grade.curve2);
+}
+
+static void shift(void)
+{
+    uint32_t budgets[6] = {4, 3, 3, 2, 4, 4};
+    struct EnergyShiftAnswer start = energy_shift_start(5, 2, 2, harvest, 6);
+    refusal("start", start.number, start.p);
+    record(start.shift);
+    struct EnergyShiftAnswer next = energy_shift_record(start.shift, 1, 9);
+    refusal("record", next.number, next.p);
+    record(next.shift);
+    next = energy_shift_record(next.shift, 1, 3);
+    refusal("record", next.number, next.p);
+    record(next.shift);
+
+    struct EnergyRestAnswer rest = energy_shift_plan_rest(next.shift, harvest, 6, budgets, 6);
+    refusal("rest", rest.number, rest.p);
+    printf(" %" PRIu32 " %" PRIu64, rest.is_short, rest.missing);
+    struct EnergyPartAnswer part = energy_shift_rest_part(next.shift, budgets, 6);
+    refusal("\npart", part.number, part.p);
+    printf(" %" PRIu64 " %" PRIu64 ":", part.from, part.length);
+    for (uint64_t i = 0; i < part.length; i++)
+        printf(" %" PRIu32, budgets[part.from + i]);
+    rest = energy_shift_plan_rest(next.shift, (const uint32_t[]){9, 0, 0, 0, 0, 1}, 6, budgets, 6);
+    refusal("\nrest", rest.number, rest.p);
+    printf(" %" PRIu32 " %" PRIu64 "\n", rest.is_short, rest.missing);
+}
+
+static void files(void)
+{
+    static uint32_t read_harvest[ENERGY_MAX_FRAMES], budgets[ENERGY_MAX_FRAMES];
+    static int64_t charges[ENERGY_MAX_FRAMES];
+    static uint8_t file[ENERGY_MAX_FILE_BYTES], text[ENERGY_LISTING_BYTES];
+    struct EnergyWriteAnswer written = energy_write(5, 2, 2, harvest, 6, file, sizeof file);
+    refusal("write", written.number, written.p);
+    printf(" %" PRIu64 " %d", written.bytes, written.bytes == ENERGY_FILE_BYTES(6));
+    struct EnergyReadAnswer back = energy_read(file, written.bytes, read_harvest, ENERGY_MAX_FRAMES);
+    refusal("\nread", back.number, back.p);
+    printf(" %" PRIu32 " %" PRIu32 " %" PRIu32 " %" PRIu32, back.capacity, back.start, back.end, back.frames);
+    printf(" %d", memcmp(harvest, read_harvest, sizeof harvest));
+    back = energy_read(file, written.bytes - 1, read_harvest, ENERGY_MAX_FRAMES);
+    refusal("\nread", back.number, back.p);
+    struct EnergyListingAnswer listing;
+    listing = energy_listing(file, written.bytes, read_harvest, ENERGY_MAX_FRAMES, budgets, ENERGY_MAX_FRAMES, charges,
+                             ENERGY_MAX_FRAMES, text, sizeof text);
+    refusal("\nlisting", listing.number, listing.p);
+    printf("\n%.*s", (int)listing.bytes, (const char *)text);
+}
+
+int main(void)
+{
+    planning();
+    shift();
+    files();
+    return 0;
+}
