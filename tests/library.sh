@@ -1,0 +1,48 @@
+#!/usr/bin/env bash
+# The tests from outside: the Rust tests over libenergy.a, every function called from C, and the examples in C and Rust.
+# Its last line is 'N passed, M failed'; anything failed exits non-zero.
+set -u
+cd "$(dirname "$0")/.." || exit 2
+
+library=${ENERGY_LIB_DIR:-target/staticlib}/libenergy.a
+work=$(mktemp -d)
+trap 'rm -rf "$work"' EXIT
+passed=0
+failed=0
+verdict() { # a test's name and its status
+    if [ "$2" -eq 0 ]; then passed=$((passed + 1)); else failed=$((failed + 1)); fi
+    if [ "$2" -eq 0 ]; then echo "ok: $1"; else echo "FAILED: $1"; fi
+}
+compare() { # a test's name, its expected output, and the command
+    local name=$1 expected=$2
+    shift 2
+    "$@" >"$work/out" 2>&1 && diff "$expected" "$work/out"
+    verdict "$name" $?
+}
+c_program() { # a C file and the program to make of it
+    ${CC:-cc} -std=c99 -Wall -Wextra -Werror -Iinclude "$1" "$library" -o "$2"
+}
+
+if [ -d crates/energy ] && [ -z "${ENERGY_LIB_DIR:-}" ]; then
+    rt staticlib energy
+    verdict 'static library' $?
+fi
+
+cargo test --offline -j1 --manifest-path harness/Cargo.toml 2>&1 | tee "$work/log"
+status=${PIPESTATUS[0]}
+while read -r ok bad; do
+    passed=$((passed + ok))
+    failed=$((failed + bad))
+done < <(sed -n 's/^test result: .* \([0-9]*\) passed; \([0-9]*\) failed;.*/\1 \2/p' "$work/log")
+verdict 'Rust tests' "$status"
+compare 'example in Rust' tests/example.out cargo run --offline -q --manifest-path harness/Cargo.toml --example plan
+
+if [ -f "$library" ]; then
+    c_program tests/header.c "$work/header" && compare 'every function from C' tests/header.out "$work/header"
+    [ -x "$work/header" ] || verdict 'header.c compiles' 1
+    c_program examples/plan.c "$work/plan" && compare 'example in C' tests/example.out "$work/plan"
+    [ -x "$work/plan" ] || verdict 'plan.c compiles' 1
+fi
+
+printf '%d passed, %d failed\n' "$passed" "$failed"
+[ "$failed" -eq 0 ] && [ "$passed" -gt 0 ]
