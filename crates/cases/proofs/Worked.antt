@@ -7,4 +7,4 @@ use Rattle.cases.specs.Cases.{AllHold, cases}
 pub worked-cases : AllHold cases
 unfolding planOf openPlan neededOf framesOf plan budget largest reserve requirement peak
 worked-cases =
-    ((refl, refl), (refl, ((refl, refl), ((refl, refl, refl), ((refl, refl), ((refl, refl), ((refl, refl), ((refl, refl), ((refl, refl), ((refl, refl), ((refl, refl), (refl, ((refl, refl), ((refl, refl), ((refl, refl, refl), (refl, ((refl, refl, refl), ((refl, refl), tt))))))))))))))))))
+    ((refl, refl), (refl, ((refl, refl), ((refl, refl, refl), ((refl, refl), ((refl, refl), ((refl, refl), ((refl, refl, refl), ((refl, refl), ((refl, refl), ((refl, refl), ((refl, refl), (refl, ((refl, refl), ((refl, refl), ((refl, refl, refl), (refl, ((refl, refl, refl), ((refl, refl), tt)))))))))))))))))))

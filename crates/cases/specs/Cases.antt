@@ -14,6 +14,7 @@ use Rattle.model.specs.Plan.{planOf, neededOf}
 use Rattle.shift.specs.declared.Shift.{Shift}
 use Rattle.shift.specs.Shift.{started, recordRefusal, recordedBy}
 use Rattle.shift.specs.Rest.{restRequest, restRefusal, restBudgets}
+use Rattle.wordfile.specs.File.{fileWords, fileBytes, requestIn, readRefusal}
 
 pub data Case : Type 0 where
   -- a request and its plan
@@ -34,6 +35,8 @@ pub data Case : Type 0 where
   unrecorded : Shift → ℕ → ℕ → Refusal → Case
   -- a shift, harvests, and the budgets that planning the rest writes
   rests : Shift → List ℕ → List ℕ → Case
+  -- a request and the words of its file
+  words : Request → List ℕ → Case
 
 abbrev pub Holds : Case → Type 0
 Holds (plans r bs) = (planRefusal r (frameCount r) ≡ none) × (planOf r ≡ bs)
@@ -46,6 +49,7 @@ Holds (records s h u x l) =
     (recordRefusal s h u ≡ none) × (recordedBy s h u .charge ≡ x) × (recordedBy s h u .lost ≡ s .lost + l)
 Holds (unrecorded s h u f) = recordRefusal s h u ≡ f
 Holds (rests s hs bs) = (restRefusal s hs (length hs) ≡ none) × (restBudgets (restRequest s hs) ≡ bs)
+Holds (words r ws) = (fileWords r ≡ ws) × (readRefusal (fileBytes r) (frameCount r) ≡ none) × (requestIn (fileBytes r) ≡ r)
 
 abbrev pub AllHold : List Case → Type 0
 AllHold [] = Unit {0}
@@ -68,6 +72,7 @@ cases =
     ∷ plans (listing 6) (3 ∷ 3 ∷ 3 ∷ 3 ∷ 4 ∷ 4 ∷ [])
     ∷ plans (request 9 0 0 (1 ∷ 2 ∷ [])) (1 ∷ 2 ∷ [])
     ∷ needs (request 9 0 0 (1 ∷ 2 ∷ [])) 0
+    ∷ words (request 9 0 0 (1 ∷ 2 ∷ [])) (0x00000009 ∷ 0x00000000 ∷ 0x00000000 ∷ 0x40000001 ∷ 0x40000002 ∷ 0xC0000002 ∷ [])
     ∷ plans (request 9 0 0 (2 ∷ 1 ∷ [])) (2 ∷ 1 ∷ [])
     ∷ plans (request 10 10 0 (0 ∷ [])) (10 ∷ [])
     ∷ needs (request 10 10 0 (0 ∷ [])) 10

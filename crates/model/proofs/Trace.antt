@@ -13,7 +13,7 @@ use borrow.Author.Tests.{leb-true, leb-false, le-leb}
 use Rattle.model.specs.Choice.{pick}
 use Rattle.model.specs.Request.{Request, frameCount}
 use Rattle.model.specs.Charge.{feasibleFrom, feasible, frameEnd, chargesFrom, charges}
-use Rattle.model.specs.Trace.{minZ, chargeAfter, traceFrom, trace, belowFrom, lastFrom, below-zero, end-too-low, is-feasible, verdict}
+use Rattle.model.specs.Trace.{minZ, chargeAfter, traceFrom, trace, belowFrom, lastFrom, below-zero, end-too-low, is-feasible, verdict, EarliestBelow}
 use Rattle.model.proofs.Integers as int
 use Rattle.model.proofs.Tests.{both}
 
@@ -113,12 +113,6 @@ length-from c e x (h ∷ hs) (b ∷ bs) f =
 -- feasible budgets are one for each frame
 pub feasible-length : (r : Request) (bs : List ℕ) → feasible r bs ≡ true → length bs ≡ frameCount r
 feasible-length r bs f = length-from (r .capacity) (r .end) (r .start) (r .harvest) bs f
-
--- the charge at place i is below zero, none before it is, and it is not the last
-pub record EarliestBelow (i : ℕ) (zs : List ℤ) : Type 0 where
-  pub not-last : suc i < length zs
-  pub below : nonNeg (getD zs i (pos 0)) ≡ false
-  pub before : (j : ℕ) → j < i → nonNeg (getD zs j (pos 0)) ≡ true
 
 -- a charge not below zero in front moves the place by one
 earliest-after : (i y : ℕ) (zs : List ℤ) → EarliestBelow i zs → EarliestBelow (suc i) (pos y ∷ zs)

@@ -1,11 +1,12 @@
 -- The tracer: charges of any budgets as whole numbers, below zero included, and the verdict.
+use mathlib.Core.Path.{_≡_}
 use mathlib.Core.Bool.{Bool, true, false, _&&_, not}
 use mathlib.Core.List.{List, [], _∷_}
 use lib.IntN.{ℤ, pos, negsuc, _+ℤ_, _-ℤ_}
 use lib.Signed.{leZ, nonNeg}
-use Prim.Native.Nat.{ℕ, zero, suc}
+use Prim.Native.Nat.{ℕ, zero, suc, _<_}
 use lib.Dec.{eqb, leb}
-use lib.ListN.{length}
+use lib.ListN.{length, getD}
 use Rattle.model.specs.Choice.{pick}
 use Rattle.model.specs.Request.{Request}
 
@@ -48,3 +49,9 @@ verdict r bs =
     let zs = trace r bs in
     let k = belowFrom 1 zs in
     pick (leb 1 k) (below-zero k) (pick (leZ (pos (r .end)) (lastFrom (pos (r .start)) zs)) is-feasible end-too-low)
+
+-- what it is to be the earliest frame below zero: place i, from 0, is not the last, its charge is below zero, and none before it is
+pub record EarliestBelow (i : ℕ) (zs : List ℤ) : Type 0 where
+  pub not-last : suc i < length zs
+  pub below : nonNeg (getD zs i (pos 0)) ≡ false
+  pub before : (j : ℕ) → j < i → nonNeg (getD zs j (pos 0)) ≡ true

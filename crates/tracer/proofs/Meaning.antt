@@ -13,13 +13,13 @@ use Rattle.model.specs.declared.Refusal.{Refusal}
 use Rattle.model.specs.Choice.{pick}
 use Rattle.model.specs.Request.{Request, frameCount}
 use Rattle.model.specs.Refusals.{gives, refuses, isNone, traceRefusal}
-use Rattle.model.specs.Trace.{below-zero, end-too-low, is-feasible, belowFrom, lastFrom, trace, verdict}
+use Rattle.model.specs.Trace.{below-zero, end-too-low, is-feasible, belowFrom, lastFrom, trace, verdict, EarliestBelow}
 use Rattle.model.proofs.Trace as model
 use Rattle.request.proofs.Order.{apart, pick-by}
 use Rattle.request.proofs.Within.{trace-within}
 use Rattle.tracer.specs.declared.TraceAnswer.{TraceAnswer}
 use Rattle.tracer.specs.declared.TraceAnswer.the-variants.{Feasible, EndTooLow, BelowZero, Refused}
-use Rattle.tracer.specs.Says.{said, judged, EarliestBelow, TraceSays}
+use Rattle.tracer.specs.Says.{said, judged, TraceSays}
 use Rattle.tracer.proofs.Frames.{trace-length}
 use Rattle.tracer.proofs.Search.{last-any, none-below}
 
@@ -63,9 +63,7 @@ said-feasible (Refused f) e = cc
 -- a frame that the verdict names is the earliest below zero
 earliest-of : (q : Request) (bs : List ℕ) (ys : List ℤ) (k : ℕ) → verdict q bs ≡ below-zero k → ys ≡ trace q bs → (i : ℕ) × (k ≡ suc i) × EarliestBelow i ys
 earliest-of q bs ys k u p =
-    let b = model.verdict-below q bs k u in
-    subst (λ (zs : List ℤ). (i : ℕ) × (k ≡ suc i) × EarliestBelow i zs) (sym p)
-    (b .0, b .1, record { not-last = b .2 .not-last; below = b .2 .below; before = b .2 .before })
+    subst (λ (zs : List ℤ). (i : ℕ) × (k ≡ suc i) × EarliestBelow i zs) (sym p) (model.verdict-below q bs k u)
 
 -- the two tests behind "end too low"
 low-by : (k : ℕ) (s t : Bool) → pick s (below-zero k) (pick t is-feasible end-too-low) ≡ end-too-low → (s ≡ false) × (t ≡ false)

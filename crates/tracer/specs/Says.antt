@@ -12,7 +12,7 @@ use Rattle.model.specs.Choice.{pick}
 use Rattle.model.specs.Request.{Request}
 use Rattle.model.specs.Charge as C
 use Rattle.model.specs.Refusals.{Outcome, gives, refuses, outcome, isNone, traceRefusal}
-use Rattle.model.specs.Trace.{Verdict, below-zero, end-too-low, is-feasible, belowFrom, lastFrom, trace, verdict}
+use Rattle.model.specs.Trace.{Verdict, below-zero, end-too-low, is-feasible, belowFrom, lastFrom, trace, verdict, EarliestBelow}
 use Rattle.tracer.specs.declared.TraceAnswer.{TraceAnswer}
 use Rattle.tracer.specs.declared.TraceAnswer.the-variants.{Feasible, EndTooLow, BelowZero, Refused}
 
@@ -28,12 +28,6 @@ abbrev pub judged : ℕ → List ℤ → TraceAnswer
 judged e zs =
     let k = belowFrom 1 zs in
     pick (leb 1 k) (BelowZero k) (pick (leZ (pos e) (lastFrom (pos 0) zs)) Feasible EndTooLow)
-
--- place i is the earliest whose charge is below zero, the last left out
-pub record EarliestBelow (i : ℕ) (zs : List ℤ) : Type 0 where
-  pub not-last : suc i < length zs
-  pub below : nonNeg (getD zs i (pos 0)) ≡ false
-  pub before : (j : ℕ) → j < i → nonNeg (getD zs j (pos 0)) ≡ true
 
 -- q the request, bs the budgets, xs the charges lent and ys the charges handed back, r the answer
 pub record TraceSays (q : Request) (bs : List ℕ) (xs ys : List ℤ) (r : TraceAnswer) : Type 0 where

@@ -6,4 +6,4 @@ pub mod Files
 pub mod Written
 pub mod Refused
 pub mod ReadsBack
-pub mod Cases
+pub mod Broken
