@@ -5,11 +5,8 @@ ghost use Rattle.model.specs.Request.{request};
 ghost use Rattle.model.specs.Refusals.{figureRefusals, firstOf, harvestOverLimit, overCapacityLimit};
 use crate::refusals::first_of;
 use crate::refusals::refuse_if;
-
-// The largest capacity, and the largest harvest of a frame.
-const MAX_CAPACITY: u32 = 1_000_000_000;
-
-const MAX_HARVEST: u32 = 400_000;
+use model::limits::MAX_CAPACITY;
+use model::limits::MAX_HARVEST;
 
 // Refusal 3 of one figure.
 pub fn capacity_refusal(figure: u32) -> model::Refusal

@@ -3,9 +3,7 @@ ghost use mathlib.Core.Path.{_≡_};
 ghost use Rattle.model.specs.Refusals.{firstOf, framesRefusals, wrongLength};
 use crate::refusals::first_of;
 use crate::refusals::refuse_if;
-
-// The most frames of a request.
-const MAX_FRAMES: usize = 2976;
+use model::limits::MAX_FRAMES;
 
 // Refusals 1 and 2 of a number of frames.
 pub fn frames_refusal(frames: usize) -> model::Refusal

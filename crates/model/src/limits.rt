@@ -1,0 +1,13 @@
+// The limits of document 01 as constants of the code, each named once.
+
+// The most frames of a request.
+pub const MAX_FRAMES: usize = 2976;
+
+// The most bytes of a word file.
+pub const MAX_FILE_BYTES: usize = 11920;
+
+// The largest harvest of a frame.
+pub const MAX_HARVEST: u32 = 400_000;
+
+// The largest capacity; for the needed capacity, the largest start and end charge.
+pub const MAX_CAPACITY: u32 = 1_000_000_000;
