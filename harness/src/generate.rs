@@ -13,8 +13,9 @@ fn frames(random: &mut Random) -> usize {
     match random.up_to(999) {
         0 => MAX_FRAMES + 1 - random.up_to(2) as usize,
         1..=9 => 0,
-        10..=19 => 30 + random.up_to(70) as usize,
-        20..=149 => 10 + random.up_to(20) as usize,
+        10..=12 => 100 + random.up_to(600) as usize,
+        13..=29 => 30 + random.up_to(70) as usize,
+        30..=159 => 10 + random.up_to(20) as usize,
         _ => 1 + random.up_to(9) as usize,
     }
 }

@@ -102,6 +102,7 @@ impl Store<'_> {
     }
 
     /// A new search, after a full or an empty store.
+    #[inline(never)]
     fn set_out(&self, next: usize, have: u64) -> Pace {
         let (budget, spare) = self.search(next, have);
         Pace {
@@ -115,6 +116,7 @@ impl Store<'_> {
     }
 
     /// The budget of a known pace: the level, or one more as long as there is spare.
+    #[inline(always)]
     fn go_on(&self, next: usize, have: u64, pace: Pace) -> Pace {
         let Pace {
             level, spare, exact, ..
@@ -134,6 +136,7 @@ impl Store<'_> {
     }
 
     /// The budget of frame i.
+    #[inline(always)]
     fn step(&self, i: usize, pace: Pace) -> Pace {
         let have = pace.charge.min(self.capacity) + u64::from(self.harvest[i]);
         if pace.known && 0 < pace.charge && pace.charge < self.capacity {

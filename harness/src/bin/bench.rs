@@ -97,7 +97,7 @@ struct Row {
     source: f64,
 }
 
-/// The worst ratios of a table, and the growth from 336 to 672 frames.
+/// A table with the ratios and the growth from 336 to 672 frames.
 fn print_table(title: &str, names: &[&str], rows: &[Row]) {
     println!("\n## {title}\n");
     print!("| harvest | capacity | frames |");
@@ -117,6 +117,44 @@ fn print_table(title: &str, names: &[&str], rows: &[Row]) {
             .for_each(|time| print!(" {:.2} |", time / row.times[0]));
         row.times.iter().for_each(|time| print!(" {:.2} |", time / row.source));
         println!(" {} |", growth(rows, row));
+    }
+}
+
+/// A row's name in a line of its own.
+fn named(row: &Row) -> String {
+    format!(
+        "{}, {} capacity, {} frames",
+        row.family.name(),
+        row.size.name(),
+        row.frames
+    )
+}
+
+/// The slowest row of each implementation, its worst ratio to the first, and its worst ratio to the source on daily sun.
+fn print_worst(names: &[&str], rows: &[Row]) {
+    println!();
+    for (i, name) in names.iter().enumerate() {
+        let by = |value: fn(&Row, usize) -> f64| rows.iter().max_by(|a, b| value(a, i).total_cmp(&value(b, i)));
+        if let Some(row) = by(|row, i| row.times[i]) {
+            println!("{name}, slowest: {:.0} us ({})", row.times[i], named(row));
+        }
+        if let Some(row) = by(|row, i| row.times[i] / row.times[0]).filter(|_| i > 0) {
+            println!(
+                "{name} / {}, worst: {:.2} ({})",
+                names[0],
+                row.times[i] / row.times[0],
+                named(row)
+            );
+        }
+        let sunny = rows.iter().filter(|row| row.family == Family::DailySun);
+        let ratio = |row: &&Row| row.times[i] / row.source;
+        if let Some(row) = sunny.max_by(|a, b| ratio(a).total_cmp(&ratio(b))) {
+            println!(
+                "{name} / source on daily sun, worst: {:.2} ({})",
+                ratio(&row),
+                named(row)
+            );
+        }
     }
 }
 
@@ -170,6 +208,7 @@ fn measure_plans(all: &[Box<dyn Energy>]) {
         &names,
         &plans,
     );
+    print_worst(&names, &plans);
     let needed = rows(|figures, harvest| {
         let times = all
             .iter()
@@ -182,6 +221,7 @@ fn measure_plans(all: &[Box<dyn Energy>]) {
         &names,
         &needed,
     );
+    print_worst(&names, &needed);
 }
 
 /// A hundred random requests of 336 frames and a hundred of 672.
@@ -279,12 +319,21 @@ fn measure_linear(all: &[Box<dyn Energy>]) {
     }
 }
 
+/// The processor's name, if the system tells it.
+fn machine() -> String {
+    let text = std::fs::read_to_string("/proc/cpuinfo").unwrap_or_default();
+    let line = text.lines().find_map(|line| line.strip_prefix("model name"));
+    line.map_or("unknown", |name| name.trim_start_matches([' ', '\t', ':']))
+        .to_string()
+}
+
 fn main() {
     let all = under_test();
     println!(
-        "# Benchmarks\n\nbaseline: {}; largest harvest {MOST}; seed {}",
+        "# Benchmarks\n\nbaseline: {}; largest harvest {MOST}; seed {}; machine: {}",
         Fast.name(),
-        seed()
+        seed(),
+        machine()
     );
     measure_plans(&all);
     measure_growth(&all);
