@@ -16,6 +16,7 @@ pub mod refusals;
 pub mod state;
 
 // A shift's record: K, frames recorded, capacity, start, end, present charge, and the totals over the recorded frames.
+#[repr(C)]
 pub struct Shift {
     pub frames: u32,
     pub recorded: u32,

@@ -1,0 +1,7 @@
+-- What the exported functions promise.
+pub mod Flat
+pub mod Plan
+pub mod Needed
+pub mod Trace
+pub mod Shifts
+pub mod Files
