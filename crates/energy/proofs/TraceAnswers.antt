@@ -7,8 +7,8 @@ use lib.IntN.{ℤ}
 use lib.ListN.{length}
 use Rattle.model.specs.Request.{Request}
 use Rattle.model.specs.Refusals.{Outcome, gives, traceRefusal}
-use Rattle.model.specs.Trace.{Verdict, verdict}
-use Rattle.tracer.specs.Says.{TraceSays, said, EarliestBelow}
+use Rattle.model.specs.Trace.{Verdict, verdict, EarliestBelow}
+use Rattle.tracer.specs.Says.{TraceSays, said}
 use Rattle.tracer.specs.declared.TraceAnswer.{TraceAnswer}
 use Rattle.tracer.specs.declared.TraceAnswer.the-variants.{Feasible, EndTooLow, BelowZero, Refused}
 use Rattle.energy.specs.Trace.{traceFlat, EnergyTraceSays}

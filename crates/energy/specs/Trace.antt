@@ -10,8 +10,7 @@ use Rattle.model.specs.Choice.{pick}
 use Rattle.model.specs.Request.{Request}
 use Rattle.model.specs.Charge as C
 use Rattle.model.specs.Refusals.{Outcome, outcome, isNone, traceRefusal}
-use Rattle.model.specs.Trace.{Verdict, below-zero, end-too-low, is-feasible, trace, verdict}
-use Rattle.tracer.specs.Says.{EarliestBelow}
+use Rattle.model.specs.Trace.{Verdict, below-zero, end-too-low, is-feasible, trace, verdict, EarliestBelow}
 use Rattle.energy.specs.Flat.{numberOf, pOf, valueOr}
 use Rattle.energy.specs.declared.trace.EnergyTraceAnswer.{EnergyTraceAnswer}
 
