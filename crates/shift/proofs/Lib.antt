@@ -5,4 +5,5 @@ pub mod Started
 pub mod Rest
 pub mod Planned
 pub mod Run
+pub mod Runs
 pub mod Impostors

@@ -60,14 +60,14 @@ put-is n b ys =
     ∙ ap (λ (zs : List ℕ). take n b ++ zs) (append-nil ys)
 
 -- short by what is missing
-short-ending : (q : Request) (m : ℕ) → m ≡ mostEnergy q → m < q .end → record { short = true; missing = q .end - m } ≡ endingOf q
+pub short-ending : (q : Request) (m : ℕ) → m ≡ mostEnergy q → m < q .end → record { short = true; missing = q .end - m } ≡ endingOf q
 short-ending q m e l =
     let t : true ≡ ltb (mostEnergy q) (q .end) = sym (lt-ltb (mostEnergy q) (q .end) (omega arith)) in
     let d : q .end - m ≡ q .end - mostEnergy q = omega arith in
     cc
 
 -- not short
-full-ending : (q : Request) (m : ℕ) → m ≡ mostEnergy q → q .end ≤ m → notShort ≡ endingOf q
+pub full-ending : (q : Request) (m : ℕ) → m ≡ mostEnergy q → q .end ≤ m → notShort ≡ endingOf q
 full-ending q m e l =
     let t : false ≡ ltb (mostEnergy q) (q .end) = sym (le-ltb (mostEnergy q) (q .end) (omega arith)) in
     let d : 0 ≡ q .end - mostEnergy q = omega arith in
@@ -129,7 +129,7 @@ module _ (s : Shift) (hs b : List ℕ) (clear : isNone (restRefusal s hs (length
       omega (arith, ap length (part-is (s .recorded) hs), length-drop (s .recorded) hs, ap length (part-is (s .recorded) b), length-drop (s .recorded) b)
 
   -- the promise of any answer that tells how the rest ends and writes its budgets
-  rest-done : (a : RestAnswer) (ys : List ℕ) → restSaid a ≡ gives (endingOf (restRequest s hs)) → ys ≡ restBudgets (restRequest s hs) → RestSays s hs b (take (s .recorded) b ++ ys) a
+  pub rest-done : (a : RestAnswer) (ys : List ℕ) → restSaid a ≡ gives (endingOf (restRequest s hs)) → ys ≡ restBudgets (restRequest s hs) → RestSays s hs b (take (s .recorded) b ++ ys) a
   rest-done a ys e d =
       let q = restRequest s hs in
       let n = s .recorded in

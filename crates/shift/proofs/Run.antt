@@ -227,8 +227,8 @@ handed-over q a s p e = go (isNone (startRefusal q)) refl (sym e ∙ p .answer)
     go false n d = let z : _≡_ {A = ℕ} 0 1 = cc in absurd (omega arith)
 
 -- demand 3
-pub demand-3 : ShiftDemand
-demand-3 q a s p e ts r =
+pub shift-demand : ShiftDemand
+shift-demand q a s p e ts r =
     let o = handed-over q a s p e in
     subst
     (λ (x : Shift). Demand3 q x ts)

@@ -185,3 +185,7 @@ abbrev pub ShiftDemand : Type 0
 ShiftDemand =
     (q : Request) (a : StartAnswer) (s : Shift) → StartSays q a → startSaid a ≡ gives s →
     (ts : List Turn) → Run s ts → Demand3 q s ts
+
+-- it speaks of every list of calls: each has a run, whatever the shift
+abbrev pub EveryListRuns : Type 0
+EveryListRuns = (s : Shift) (cs : List Call) → (ts : List Turn) × (calls ts ≡ cs) × Run s ts
