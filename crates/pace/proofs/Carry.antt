@@ -6,10 +6,10 @@ use Prim.Native.Nat.{ℕ, _+_, _-_, _≤_, _<_, _^_, min, max}
 use native.Mathlib.Nat.{le-refl}
 use native.Mathlib.Omega.{arith}
 use Rattle.model.specs.Frames.{Frame}
-use Rattle.pace.specs.Frame.{reserveAt, Read}
+use Rattle.pace.specs.Frame.{reserveAt, drawn, Read}
 use Rattle.pace.specs.Scan.{Scanned}
 use Rattle.pace.specs.Search.{Between}
-use Rattle.pace.specs.Pace.{Paced, Ahead, Drawn, drawn}
+use Rattle.pace.specs.Pace.{Paced, Ahead, Open, Drawn}
 use Rattle.pace.proofs.Reserve.{grows, at-frame}
 
 -- what a frame takes below its least, from its most on, and in between
@@ -48,8 +48,8 @@ module _ {e : ℕ} {fs : List Frame} {i a lo hi : ℕ} where
       }
 
   -- a budget that was found, with no pace
-  pub unpaced : {b s : ℕ} → a ≤ 2 ^ 33 → Between e fs i a lo hi b s b → Drawn e fs i a lo hi b (a - b) 0 0 false false
-  unpaced fa f =
+  pub unpaced : {b s : ℕ} → Open e fs i a lo hi → Between e fs i a lo hi b s b → Drawn e fs i a lo hi b (a - b) 0 0 false false
+  unpaced o f =
       record {
         found = record {
           low = f .low;
@@ -70,23 +70,25 @@ module _ {e : ℕ} {fs : List Frame} {i a lo hi : ℕ} where
       }
 
   -- a budget that was found above the least and below the most: the level is one below it
-  pub paced-below : {b s : ℕ} → a ≤ 2 ^ 33 → hi < 2 ^ 32 → Between e fs i a lo hi b s b → (b ≡ hi → ⊥) → lo < b →
+  pub paced-below : {b s : ℕ} → Open e fs i a lo hi → Between e fs i a lo hi b s b → (b ≡ hi → ⊥) → lo < b →
       Drawn e fs i a lo hi b (a - b) (b - 1) s false true
-  paced-below {b} {s} fa fh f n p =
+  paced-below {b} {s} o f n p =
       let high : b ≤ hi = f .high in
       let refused : a ≤ b + reserveAt e fs i b = f .refused (omega arith) in
-      draws b (b - 1) s false fa (omega arith) (f .low) high (λ q. omega (arith, f .taken q)) (λ _. refused) (f .taken p)
+      draws b (b - 1) s false (o .have-fits) (omega (arith, o .most-fits)) (f .low) high (λ q. omega (arith, f .taken q)) (λ _. refused)
+      (f .taken p)
       (omega (arith, grows e fs i b (b - 1 + 1) (omega arith)))
       (λ z. absurd (false≢true z))
 
   -- nothing was found to draw: the level 0 leaves nothing over
-  pub paced-none : {b s : ℕ} → a ≤ 2 ^ 33 → Between e fs i a lo hi b s b → (b ≡ hi → ⊥) → b ≤ lo → b ≡ 0 → lo + reserveAt e fs i 0 ≤ a →
+  pub paced-none : {b s : ℕ} → Open e fs i a lo hi → Between e fs i a lo hi b s b → (b ≡ hi → ⊥) → b ≤ lo → b ≡ 0 →
       Drawn e fs i a lo hi 0 (a - 0) 0 0 true true
-  paced-none {b} {s} fa f n p z r =
+  paced-none {b} {s} o f n p z =
       let high : b ≤ hi = f .high in
       let low : lo ≤ b = f .low in
       let refused : a ≤ 0 + reserveAt e fs i 0 = rw z at (f .refused (omega arith)) in
-      draws 0 0 0 true fa (omega arith) (omega arith) (omega arith) (λ (q : lo < 0). omega arith) (λ _. refused) (omega arith)
+      draws 0 0 0 true (o .have-fits) (omega arith) (omega arith) (omega arith) (λ (q : lo < 0). omega arith) (λ _. refused)
+      (omega (arith, o .reach))
       (omega (arith, grows e fs i 0 (0 + 1) (omega arith)))
       (λ _. refused)
 
@@ -100,7 +102,8 @@ module _ {e : ℕ} {fs : List Frame} {i a lo hi : ℕ} where
       lasts refuses tight
 
   -- the level is at or above the most, and so the most is the budget
-  greatest : (level spare : ℕ) (exact : Bool) → hi ≤ level → a ≤ 2 ^ 33 → level < 2 ^ 32 → lo ≤ hi → hi + reserveAt e fs i level + spare ≤ a →
+  greatest : (level spare : ℕ) (exact : Bool) → hi ≤ level → a ≤ 2 ^ 33 → level < 2 ^ 32 → lo ≤ hi →
+      hi + reserveAt e fs i level + spare ≤ a →
       a ≤ hi + reserveAt e fs i (level + 1) → (exact ≡ true → a ≤ hi + reserveAt e fs i level) →
       Drawn e fs i a lo hi hi (a - hi) level spare exact true
   greatest level spare exact p fa fl b lasts refuses tight =
@@ -224,12 +227,14 @@ ahead {e} {fs} {i} {y} {level} {spare} {exact} {known} {h} {m} {d} {lo} {hi} rea
       level-fits = p .level-fits;
       bounds = b;
       lasts =
-          lasts-on (reserveAt e fs i level) (reserveAt e fs (i + 1) level) y h m d (drawn lo hi level) spare (at-frame e level read) n (p .lasts z);
+          lasts-on (reserveAt e fs i level) (reserveAt e fs (i + 1) level) y h m d (drawn lo hi level) spare (at-frame e level read) n
+          (p .lasts z);
       refuses =
           refuses-on (reserveAt e fs i (level + 1)) (reserveAt e fs (i + 1) (level + 1)) y h m d (drawn lo hi (level + 1))
           (at-frame e (level + 1) read)
           f
           (p .refuses z);
       tight = λ t.
-          refuses-on (reserveAt e fs i level) (reserveAt e fs (i + 1) level) y h m d (drawn lo hi level) (at-frame e level read) f (p .tight z t);
+          refuses-on (reserveAt e fs i level) (reserveAt e fs (i + 1) level) y h m d (drawn lo hi level) (at-frame e level read) f
+          (p .tight z t);
     }

@@ -9,7 +9,8 @@ use lib.Seq.{drop-cons}
 use Rattle.model.specs.Frames.{Frame}
 use Rattle.model.specs.Plan.{frameOf, framesOf}
 use Rattle.pace.specs.Frame.{Read}
-use Rattle.pace.specs.Pace.{Small}
+use Rattle.pace.specs.declared.frame.Rule.{Rule}
+use Rattle.pace.specs.Says.{Small, frames}
 
 -- the frames from i on are those of the harvests from i on
 pub frames-drop : (c m i : ℕ) (hs : List ℕ) → drop i (framesOf c m hs) ≡ framesOf c m (drop i hs)
@@ -31,11 +32,11 @@ unfolding framesOf
 frames-cons c m i hs l = rw (add-one i, frames-drop c m i hs, frames-drop c m (suc i) hs, drop-cons hs i 0 l)
 
 -- what the code's reading of frame i gives
-pub frames-read : (c m i h : ℕ) (hs : List ℕ) → Small c m → i < length hs → h ≡ getD hs i 0 → h < 2 ^ 32 →
-    Read (framesOf c m hs) i h (c + h) 0 0 m
-frames-read c m i h hs s l q k =
+pub frames-read : (r : Rule) (hs : List ℕ) (i h : ℕ) → Small r → i < length hs → h ≡ getD hs i 0 → h < 2 ^ 32 →
+    Read (frames r hs) i h (r .capacity + h) 0 0 (r .most)
+frames-read r hs i h s l q k =
     record {
-      is = rw q (frames-cons c m i hs l);
+      is = rw q (frames-cons (r .capacity) (r .most) i hs l);
       inflow-fits = k;
       ceiling-fits = omega arith;
       drain-fits = omega arith;
@@ -44,5 +45,5 @@ frames-read c m i h hs s l q k =
     }
 
 -- past the last harvest there is no frame
-pub frames-past : (c m : ℕ) (hs : List ℕ) (k : ℕ) → length hs ≤ k → length (framesOf c m hs) ≤ k
-frames-past c m hs k h = rw (frames-length c m hs) h
+pub frames-past : (r : Rule) (hs : List ℕ) (k : ℕ) → length hs ≤ k → length (frames r hs) ≤ k
+frames-past r hs k h = rw (frames-length (r .capacity) (r .most) hs) h

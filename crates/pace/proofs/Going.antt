@@ -12,7 +12,10 @@ use Rattle.model.specs.Frames.{Frame, Feasible, left, plan}
 use Rattle.model.specs.Plan.{frameOf, framesOf}
 use Rattle.model.proofs.Plan.{plan-best}
 use Rattle.pace.specs.Peak.{peakCarried}
-use Rattle.pace.specs.Pace.{Able, Paced, Stepped, Small, Ready}
+use Rattle.pace.specs.Pace.{Able, Stepped, Ready}
+use Rattle.pace.specs.declared.frame.Rule.{Rule}
+use Rattle.pace.specs.declared.step.Pace.{Pace}
+use Rattle.pace.specs.Says.{Small, AbleAt, PacedAt, SteppedAt}
 
 -- drawing nothing reaches an end charge that can be kept and reached
 idle-step : (c y h e t : ℕ) → e ≤ c → e ≤ y + (h + t) → e ≤ min (c + h) (y + h) - (0 + 0) + t
@@ -26,16 +29,26 @@ idle c m e y (h ∷ hs) p q = (
   idle c m e (left (frameOf c m h) y 0) hs p (idle-step c y h e (total hs) p q),
 )
 
--- the loop at frame i, with charge y
-pub record Going (e : ℕ) (fs : List Frame) (i y level spare : ℕ) (exact known : Bool) : Type 0 where
-  pub able : Able e fs i y
-  pub paced : Paced e fs i y level spare exact known
+-- the rule that the code makes of its figures
+abbrev pub rule-of : ℕ → ℕ → ℕ → Rule
+rule-of c e m = record { capacity = c; end = e; most = m }
+
+pub small : {c s e m : ℕ} {hs : List ℕ} → Ready c s e m hs → Small (rule-of c e m)
+small r = record { capacity-fits = r .capacity-fits; most-fits = r .most-fits }
+
+-- the loop at frame i, with pace p
+pub record Going (r : Rule) (hs : List ℕ) (i : ℕ) (p : Pace) : Type 0 where
+  pub within : i ≤ length hs
+  pub able : AbleAt r hs i p
+  pub paced : PacedAt r hs i p
 
 -- before the first frame
-pub start : (c s e m : ℕ) (hs : List ℕ) → Ready c s e m hs → Going e (framesOf c m hs) 0 s 0 0 false false
+pub start : {c s e m : ℕ} {hs : List ℕ} → Ready c s e m hs →
+    Going (rule-of c e m) hs 0 (record { budget = 0; charge = s; level = 0; spare = 0; exact = false; known = false })
 unfolding Able
-start c s e m hs r =
+start {c} {s} {e} {m} {hs} r =
     record {
+      within = omega arith;
       able = plan-best e s 0 (framesOf c m hs) (replicate (length hs) 0) (idle c m e s hs (r .kept) (r .reached)) .0;
       paced = record {
         charge-fits = omega (arith, r .start-fits);
@@ -47,13 +60,8 @@ start c s e m hs r =
     }
 
 -- after a step
-pub on : {e : ℕ} {fs : List Frame} {i y b z level spare : ℕ} {exact known : Bool} → Stepped e fs i y b z level spare exact known →
-    Going e fs (i + 1) z level spare exact known
-on s = record { able = s .able; paced = s .paced }
-
--- what is small enough to read frames from
-pub small : {c s e m : ℕ} {hs : List ℕ} → Ready c s e m hs → Small c m
-small r = record { capacity-fits = r .capacity-fits; most-fits = r .most-fits }
+pub on : (r : Rule) (hs : List ℕ) (i : ℕ) (p q : Pace) → i < length hs → SteppedAt r hs i p q → Going r hs (i + 1) q
+on r hs i p q l s = record { within = omega arith; able = s .able; paced = s .paced }
 
 -- the budgets written before frame i, with the plan from there on, are the whole plan
 pub record Written (e s : ℕ) (fs : List Frame) (i y : ℕ) (bs : List ℕ) : Type 0 where
@@ -74,7 +82,8 @@ write-on {e} {s} {fs} {i} {y} {b} {z} {bs = bs} st l w =
     }
 
 -- all are written
-pub write-all : {e s : ℕ} {fs : List Frame} {i y : ℕ} {bs : List ℕ} → length fs ≤ i → length bs ≤ i → Written e s fs i y bs → bs ≡ plan e s fs
+pub write-all : {e s : ℕ} {fs : List Frame} {i y : ℕ} {bs : List ℕ} → length fs ≤ i → length bs ≤ i → Written e s fs i y bs →
+    bs ≡ plan e s fs
 unfolding plan
 write-all {e} {s} {fs} {i} {y} {bs} h l w =
     sym (append-nil bs) ∙ (rw (take-all i bs l, drop-of-length-le fs {i = i} h) at (w .is))

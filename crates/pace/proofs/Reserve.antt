@@ -6,8 +6,7 @@ use native.Mathlib.Omega.{arith}
 use lib.ListN.{length, drop, drop-of-length-le}
 use Rattle.model.specs.Frames.{Frame, reserve}
 use Rattle.model.proofs.Reserve.{reserve-grows}
-use Rattle.pace.specs.Frame.{frame, reserveAt, Read}
-use Rattle.pace.specs.Pace.{drawn}
+use Rattle.pace.specs.Frame.{frame, drawn, reserveAt, Read}
 
 -- the reserve grows with the level
 pub grows : (e : ℕ) (fs : List Frame) (i l m : ℕ) → l ≤ m → reserveAt e fs i l ≤ reserveAt e fs i m

@@ -10,7 +10,7 @@ use Rattle.model.proofs.Budget.{IsLargest, budget-is, one-largest, largest-foun
 use Rattle.pace.specs.Frame.{frame, reserveAt, Read}
 use Rattle.pace.specs.Search.{Between}
 use Rattle.pace.specs.Peak.{peakCarried}
-use Rattle.pace.specs.Pace.{Able, Paced, Drawn, Stepped}
+use Rattle.pace.specs.Pace.{Able, Open, Drawn, Stepped}
 
 -- a budget that a search has caught is the largest
 is-largest : (e : ℕ) (fs : List Frame) (i a lo hi b s : ℕ) → Between e fs i a lo hi b s b →
@@ -64,7 +64,8 @@ pub record Allows (e : ℕ) (fs : List Frame) (i y h m d lo hi : ℕ) : Type 0 w
   pub drains : d ≤ min m (y + h)
   pub reach : lo + reserveAt e fs (i + 1) 0 ≤ min m (y + h) - d
 
-allows-by : (e : ℕ) (fs : List Frame) (i y h m d lo hi b : ℕ) → Allowed (frame h m d lo hi) y b → reserveAt e fs (i + 1) 0 ≤ min m (y + h) - (d + b) →
+allows-by : (e : ℕ) (fs : List Frame) (i y h m d lo hi b : ℕ) → Allowed (frame h m d lo hi) y b →
+    reserveAt e fs (i + 1) 0 ≤ min m (y + h) - (d + b) →
     Allows e fs i y h m d lo hi
 allows-by e fs i y h m d lo hi b a r =
     let low : lo ≤ b = a .low in
@@ -81,10 +82,10 @@ allows {e} {fs} {i} {y} {h} {m} {d} {lo} {hi} read able =
     allows-by e fs i y h m d lo hi b (k .0) (reserve-able e (left f y b) (drop (i + 1) fs) (plan e (left f y b) (drop (i + 1) fs)) (k .1))
 
 -- what a full frame has, and one that is not full
-pub has-full : (m y h d : ℕ) → m ≤ y + h → m - d ≡ min m (y + h) - d
+has-full : (m y h d : ℕ) → m ≤ y + h → m - d ≡ min m (y + h) - d
 has-full m y h d p = omega arith
 
-pub has-part : (m y h d : ℕ) → y + h < m → y + h - d ≡ min m (y + h) - d
+has-part : (m y h d : ℕ) → y + h < m → y + h - d ≡ min m (y + h) - d
 has-part m y h d p = omega arith
 
 -- the drain is covered, in a full frame and in one that is not
@@ -97,11 +98,25 @@ drains-part w = omega arith
 has-fits : (m y h d : ℕ) → m ≤ 2 ^ 33 → min m (y + h) - d ≤ 2 ^ 33
 has-fits m y h d p = omega arith
 
--- what a search from a frame asks
-pub sets-out : {e : ℕ} {fs : List Frame} {i y h m d lo hi a : ℕ} → Read fs i h m d lo hi → Allows e fs i y h m d lo hi →
-    a ≡ min m (y + h) - d → (a ≤ 2 ^ 33) × (hi < 2 ^ 32) × (lo ≤ hi) × (lo + reserveAt e fs (i + 1) 0 ≤ a)
-sets-out {y = y} {h = h} {m = m} {d = d} read w q =
-    rw q (has-fits m y h d (read .ceiling-fits), read .most-fits, w .bounds, w .reach)
+-- where the plan can be drawn, a frame can be searched with no pace known, full or not
+opens : {e : ℕ} {fs : List Frame} {i y h m d lo hi : ℕ} (a : ℕ) → Read fs i h m d lo hi → Allows e fs i y h m d lo hi →
+    a ≡ min m (y + h) - d →
+    Open e fs (i + 1) a lo hi
+opens {y = y} {h = h} {m = m} {d = d} a read w q =
+    record {
+      have-fits = rw q (has-fits m y h d (read .ceiling-fits));
+      most-fits = read .most-fits;
+      bounds = w .bounds;
+      reach = rw q (w .reach);
+    }
+
+pub opens-full : {e : ℕ} {fs : List Frame} {i y h m d lo hi : ℕ} → Read fs i h m d lo hi → Allows e fs i y h m d lo hi → m ≤ y + h →
+    Open e fs (i + 1) (m - d) lo hi
+opens-full {y = y} {h = h} {m = m} {d = d} read w p = opens (m - d) read w (has-full m y h d p)
+
+pub opens-part : {e : ℕ} {fs : List Frame} {i y h m d lo hi : ℕ} → Read fs i h m d lo hi → Allows e fs i y h m d lo hi → y + h < m →
+    Open e fs (i + 1) (y + h - d) lo hi
+opens-part {y = y} {h = h} {m = m} {d = d} read w p = opens (y + h - d) read w (has-part m y h d p)
 
 -- what is left: the charge that the code carries
 left-is : (m y h d b a z : ℕ) → a ≡ min m (y + h) - d → z ≡ a - b → min m (y + h) - (d + b) ≡ z
@@ -122,7 +137,7 @@ module _ (e y : ℕ) (f : Frame) (fs : List Frame) (b z : ℕ) (is : budget e y 
   able-on k = subst (λ (n : ℕ). Feasible e n fs (plan e n fs)) leaves ((rw is at k) .1)
 
 -- a budget drawn is a step of the plan
-pub stepped : {e : ℕ} {fs : List Frame} {i y h m d lo hi a b z level spare : ℕ} {exact known : Bool} → Read fs i h m d lo hi → Able e fs i y →
+stepped : {e : ℕ} {fs : List Frame} {i y h m d lo hi a b z level spare : ℕ} {exact known : Bool} → Read fs i h m d lo hi → Able e fs i y →
     a ≡ min m (y + h) - d → Drawn e fs (i + 1) a lo hi b z level spare exact known →
     Stepped e fs i y b z level spare exact known
 unfolding Able
@@ -141,3 +156,14 @@ stepped {e} {fs} {i} {y} {h} {m} {d} {lo} {hi} {a} {b} {z} read able q drawn =
   where
     fits-under : {b hi : ℕ} → b ≤ hi → hi < 2 ^ 32 → b < 2 ^ 32
     fits-under p k = omega arith
+
+-- in a full frame, and in one that is not full
+pub stepped-full : {e : ℕ} {fs : List Frame} {i y h m d lo hi b z level spare : ℕ} {exact known : Bool} → Read fs i h m d lo hi →
+    Able e fs i y →
+    m ≤ y + h → Drawn e fs (i + 1) (m - d) lo hi b z level spare exact known → Stepped e fs i y b z level spare exact known
+stepped-full {y = y} {h = h} {m = m} {d = d} read able p drawn = stepped read able (has-full m y h d p) drawn
+
+pub stepped-part : {e : ℕ} {fs : List Frame} {i y h m d lo hi b z level spare : ℕ} {exact known : Bool} → Read fs i h m d lo hi →
+    Able e fs i y →
+    y + h < m → Drawn e fs (i + 1) (y + h - d) lo hi b z level spare exact known → Stepped e fs i y b z level spare exact known
+stepped-part {y = y} {h = h} {m = m} {d = d} read able p drawn = stepped read able (has-part m y h d p) drawn

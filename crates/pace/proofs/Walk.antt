@@ -6,8 +6,7 @@ use Prim.Native.Nat.{ℕ, _+_, _-_, _≤_, _<_, _^_, min, max}
 use native.Mathlib.Omega.{arith}
 use lib.ListN.{length}
 use Rattle.model.specs.Frames.{Frame}
-use Rattle.pace.specs.Frame.{reserveAt, Read}
-use Rattle.pace.specs.Pace.{drawn}
+use Rattle.pace.specs.Frame.{reserveAt, drawn, Read}
 use Rattle.pace.specs.Scan.{Scanned}
 use Rattle.pace.proofs.Reserve.{at-frame, at-end}
 

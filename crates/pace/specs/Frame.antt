@@ -1,13 +1,17 @@
 -- The frames of a request from a number on, and one frame read field by field.
 use mathlib.Core.Path.{_≡_}
 use mathlib.Core.List.{List, _∷_}
-use Prim.Native.Nat.{ℕ, _+_, _≤_, _<_, _^_}
+use Prim.Native.Nat.{ℕ, _+_, _≤_, _<_, _^_, min, max}
 use lib.ListN.{drop}
 use Rattle.model.specs.Frames.{Frame, reserve}
 
 -- a frame of an inflow, a ceiling, a drain, a least and a most
 abbrev pub frame : ℕ → ℕ → ℕ → ℕ → ℕ → Frame
 frame h m d lo hi = record { inflow = h; ceiling = m; drain = d; least = lo; most = hi }
+
+-- what a frame with a least and a most takes at a level
+abbrev pub drawn : ℕ → ℕ → ℕ → ℕ
+drawn lo hi l = max lo (min hi l)
 
 -- the reserve of a level for the frames from number i on
 unfoldable pub reserveAt : ℕ → List Frame → ℕ → ℕ → ℕ

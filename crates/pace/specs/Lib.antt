@@ -4,3 +4,4 @@ pub mod Scan
 pub mod Search
 pub mod Pace
 pub mod Peak
+pub mod Says

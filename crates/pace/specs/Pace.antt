@@ -6,7 +6,7 @@ use Prim.Native.Nat.{ℕ, _+_, _-_, _≤_, _<_, _^_, max, min}
 use lib.ListN.{drop}
 use Rattle.model.specs.Request.{total}
 use Rattle.model.specs.Frames.{Frame, Feasible, plan}
-use Rattle.pace.specs.Frame.{reserveAt}
+use Rattle.pace.specs.Frame.{reserveAt, drawn}
 use Rattle.pace.specs.Search.{Between}
 use Rattle.pace.specs.Peak.{peakCarried}
 
@@ -22,10 +22,6 @@ pub record Paced (e : ℕ) (fs : List Frame) (i y level spare : ℕ) (exact know
   pub refuses : known ≡ true → y ≤ reserveAt e fs i (level + 1)
   pub tight : known ≡ true → exact ≡ true → y ≤ reserveAt e fs i level
 
--- what a frame takes at a level
-abbrev pub drawn : ℕ → ℕ → ℕ → ℕ
-drawn lo hi l = max lo (min hi l)
-
 -- a known pace inside a frame that has a, with a least lo and a most hi, followed by the frames from i on
 pub record Ahead (e : ℕ) (fs : List Frame) (i a lo hi level spare : ℕ) (exact : Bool) : Type 0 where
   pub have-fits : a ≤ 2 ^ 33
@@ -35,6 +31,13 @@ pub record Ahead (e : ℕ) (fs : List Frame) (i a lo hi level spare : ℕ) (exac
   pub lasts : drawn lo hi level + reserveAt e fs i level + spare ≤ a
   pub refuses : a ≤ drawn lo hi (level + 1) + reserveAt e fs i (level + 1)
   pub tight : exact ≡ true → a ≤ drawn lo hi level + reserveAt e fs i level
+
+-- the same frame with no pace known: the least can be drawn, and level 0 goes on from what is left
+pub record Open (e : ℕ) (fs : List Frame) (i a lo hi : ℕ) : Type 0 where
+  pub have-fits : a ≤ 2 ^ 33
+  pub most-fits : hi < 2 ^ 32
+  pub bounds : lo ≤ hi
+  pub reach : lo + reserveAt e fs i 0 ≤ a
 
 -- the budget of that frame is drawn: b, which leaves charge y and a pace for the frames from i on
 pub record Drawn (e : ℕ) (fs : List Frame) (i a lo hi b y level spare : ℕ) (exact known : Bool) : Type 0 where
@@ -49,11 +52,6 @@ pub record Stepped (e : ℕ) (fs : List Frame) (i y b z level spare : ℕ) (exac
   pub fits : b < 2 ^ 32
   pub able : Able e fs (i + 1) z
   pub paced : Paced e fs (i + 1) z level spare exact known
-
--- figures that a frame can be read from
-pub record Small (capacity most : ℕ) : Type 0 where
-  pub capacity-fits : capacity < 2 ^ 32
-  pub most-fits : most < 2 ^ 32
 
 -- what the planning of harvests from a start charge asks: figures of 32 bits, and an end charge that can be kept and reached
 pub record Ready (capacity start end most : ℕ) (harvest : List ℕ) : Type 0 where

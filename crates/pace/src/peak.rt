@@ -1,5 +1,6 @@
 // The greatest charge that the plan carries from frame to frame, without writing the plan.
-use super::frame::greater;
+use super::frame::Rule;
+use super::number::greater;
 use super::step::set_off;
 use super::step::step;
 ghost use mathlib.Core.Path.{_≡_};
@@ -12,11 +13,16 @@ pub fn peak_charge(capacity: u64, start: u64, end: u64, most: u64, harvest: &[u3
     requires { ⌜ Ready capacity start end most (now harvest) ⌝ }
     ensures { λ r. ⌜ r ≡ peakCarried end start (framesOf capacity most (now (harvest .entry))) ⌝ }
 {
+    let rule = Rule {
+        capacity: capacity,
+        end: end,
+        most: most,
+    };
     let mut p = set_off(start);
     let mut top = 0;
     let mut i = 0;
     while i < harvest.len() {
-        p = step(capacity, end, most, harvest, i, p);
+        p = step(rule, harvest, i, p);
         top = greater(top, p.charge);
         i += 1;
     }

@@ -1,4 +1,5 @@
 // The whole plan, written frame by frame.
+use super::frame::Rule;
 use super::step::set_off;
 use super::step::step;
 ghost use mathlib.Core.Path.{_≡_};
@@ -19,10 +20,15 @@ pub fn plan_into(
     requires { ⌜ Ready capacity start end most (now harvest) × (length (now budgets) ≡ length (now harvest)) ⌝ }
     ensures { λ _. ⌜ now (budgets .exit) ≡ plan end start (framesOf capacity most (now (harvest .entry))) ⌝ }
 {
+    let rule = Rule {
+        capacity: capacity,
+        end: end,
+        most: most,
+    };
     let mut p = set_off(start);
     let mut i = 0;
     while i < harvest.len() {
-        p = step(capacity, end, most, harvest, i, p);
+        p = step(rule, harvest, i, p);
         budgets[i] = p.budget as u32;
         i += 1;
     }

@@ -1,14 +1,13 @@
 // Drawing a level, frame after frame, until the store is full, runs dry or the last frame is passed.
+use super::frame::Rule;
 use super::frame::draw;
 use super::frame::frame_at;
-use super::frame::lesser;
+use super::number::lesser;
 ghost use mathlib.Core.Path.{_≡_};
 ghost use mathlib.Core.Bool.{true, false};
 ghost use Prim.Native.Nat.{_≤_, _<_, _^_, min};
 ghost use lib.ListN.{length};
-ghost use Rattle.model.specs.Plan.{framesOf};
-ghost use Rattle.pace.specs.Pace.{Small};
-ghost use Rattle.pace.specs.Scan.{Scanned};
+ghost use Rattle.pace.specs.Says.{Small, ScannedAt};
 
 // Whether the level goes on, with how much to spare, and the budget that would make the event just seen exact.
 pub struct Outcome {
@@ -49,24 +48,16 @@ fn fails(level: u64, short: u64, frames: usize) -> Outcome
     }
 }
 
-// Draws the level from the charge at frames `from` on.
-pub fn scan(
-    capacity: u64,
-    end: u64,
-    most: u64,
-    harvest: &[u32],
-    from: usize,
-    charge: u64,
-    level: u64,
-) -> Outcome
-    requires { ⌜ Small capacity most × (charge ≤ 2 ^ 33) × (level < 2 ^ 33) × (from ≤ length (now harvest)) ⌝ }
-    ensures { λ r. ⌜ Scanned end (framesOf capacity most (now (harvest .entry))) from charge level (r .ok) (r .spare) ⌝ }
+// Draws the level from the charge at the frames from `from` on.
+pub fn scan(rule: Rule, harvest: &[u32], from: usize, charge: u64, level: u64) -> Outcome
+    requires { ⌜ Small rule × (charge ≤ 2 ^ 33) × (level < 2 ^ 33) × (from ≤ length (now harvest)) ⌝ }
+    ensures { λ r. ⌜ ScannedAt rule (now (harvest .entry)) from charge level r ⌝ }
 {
     let mut y = charge;
     let mut spare = charge;
     let mut k = from;
     while k < harvest.len() {
-        let f = frame_at(capacity, most, harvest, k);
+        let f = frame_at(rule, harvest, k);
         let a = y + f.inflow;
         if f.ceiling <= a {
             return goes(level, spare, a - f.ceiling, k - from);
@@ -79,8 +70,8 @@ pub fn scan(
         spare = lesser(spare, y);
         k += 1;
     }
-    if y < end {
-        return fails(level, end - y, k - from);
+    if y < rule.end {
+        return fails(level, rule.end - y, k - from);
     }
-    goes(level, spare, y - end, k - from)
+    goes(level, spare, y - rule.end, k - from)
 }

@@ -1,14 +1,14 @@
 // The search for a budget where no pace is known: all there is first, then the survey's guess and one unit more, then the
 // budget that makes the event just seen exact, and after a few such tries the middle.
+use super::frame::At;
+use super::frame::Rule;
 use super::frame::draw;
-use super::frame::lesser;
+use super::number::lesser;
 use super::scan::scan;
 use super::survey::survey;
 ghost use Prim.Native.Nat.{_-_, _≤_, _<_, _^_};
 ghost use lib.ListN.{length};
-ghost use Rattle.model.specs.Plan.{framesOf};
-ghost use Rattle.pace.specs.Pace.{Small};
-ghost use Rattle.pace.specs.Search.{Between};
+ghost use Rattle.pace.specs.Says.{Small, BetweenAt, CaughtAt};
 
 // How many tries are hinted, the first included.
 const TRIES: u64 = 8;
@@ -37,20 +37,11 @@ fn guess(good: u64, top: u64, hint: u64, tries: u64) -> u64
 }
 
 // What to try after a refusal: the survey's guess if it was the first try.
-fn lower(
-    capacity: u64,
-    end: u64,
-    most: u64,
-    harvest: &[u32],
-    next: usize,
-    have: u64,
-    tries: u64,
-    hint: u64,
-) -> u64
-    requires { ⌜ Small capacity most × (have ≤ 2 ^ 33) × (next ≤ length (now harvest)) ⌝ }
+fn lower(rule: Rule, harvest: &[u32], next: usize, have: u64, tries: u64, hint: u64) -> u64
+    requires { ⌜ Small rule × (have ≤ 2 ^ 33) × (next ≤ length (now harvest)) ⌝ }
 {
     if tries == TRIES {
-        return survey(capacity, end, most, harvest, next, have);
+        return survey(rule, harvest, next, have);
     }
     hint
 }
@@ -61,23 +52,13 @@ fn higher(tries: u64, hint: u64) -> u64 {
 }
 
 // Tries one budget of the range.
-fn narrow(
-    capacity: u64,
-    end: u64,
-    most: u64,
-    harvest: &[u32],
-    next: usize,
-    have: u64,
-    low: u64,
-    high: u64,
-    at: Range,
-) -> Range
-    requires { ⌜ Small capacity most × (have ≤ 2 ^ 33) × (next ≤ length (now harvest)) × (at .good < at .top) × Between end (framesOf capacity most (now harvest)) next have low high (at .good) (at .spare) (at .top) ⌝ }
-    ensures { λ r. ⌜ Between end (framesOf capacity most (now (harvest .entry))) next have low high (r .good) (r .spare) (r .top) × (r .top - r .good < at .top - at .good) ⌝ }
+fn narrow(rule: Rule, harvest: &[u32], next: usize, f: At, have: u64, at: Range) -> Range
+    requires { ⌜ Small rule × (have ≤ 2 ^ 33) × (next ≤ length (now harvest)) × (at .good < at .top) × BetweenAt rule (now harvest) next f have at ⌝ }
+    ensures { λ r. ⌜ BetweenAt rule (now (harvest .entry)) next f have r × (r .top - r .good < at .top - at .good) ⌝ }
 {
     let g = guess(at.good, at.top, at.hint, at.tries);
     let tries = at.tries - lesser(at.tries, 1);
-    let found = scan(capacity, end, most, harvest, next, have - g, g - 1);
+    let found = scan(rule, harvest, next, have - g, g - 1);
     if found.ok {
         return Range {
             good: g,
@@ -87,48 +68,29 @@ fn narrow(
             tries: tries,
         };
     }
-    let hint = lower(
-        capacity,
-        end,
-        most,
-        harvest,
-        next,
-        have,
-        at.tries,
-        found.hint,
-    );
     Range {
         good: at.good,
         spare: at.spare,
         top: g - 1,
-        hint: hint,
+        hint: lower(rule, harvest, next, have, at.tries, found.hint),
         tries: tries,
     }
 }
 
-// The budget, from low to high, of a frame that has so much and is followed by the frames from next on.
-pub fn search(
-    capacity: u64,
-    end: u64,
-    most: u64,
-    harvest: &[u32],
-    next: usize,
-    have: u64,
-    low: u64,
-    high: u64,
-) -> Range
-    requires { ⌜ Small capacity most × (have ≤ 2 ^ 33) × (next ≤ length (now harvest)) × (low ≤ high) × (low ≤ have) ⌝ }
-    ensures { λ r. ⌜ Between end (framesOf capacity most (now (harvest .entry))) next have low high (r .good) (r .spare) (r .good) ⌝ }
+// The budget of a frame that has so much and is followed by the frames from next on.
+pub fn search(rule: Rule, harvest: &[u32], next: usize, f: At, have: u64) -> Range
+    requires { ⌜ Small rule × (have ≤ 2 ^ 33) × (next ≤ length (now harvest)) × (f .least ≤ f .most) × (f .least ≤ have) ⌝ }
+    ensures { λ r. ⌜ CaughtAt rule (now (harvest .entry)) next f have r ⌝ }
 {
     let mut at = Range {
-        good: low,
+        good: f.least,
         spare: 0,
-        top: lesser(high, have),
+        top: lesser(f.most, have),
         hint: 0,
         tries: TRIES,
     };
     while at.good < at.top {
-        at = narrow(capacity, end, most, harvest, next, have, low, high, at);
+        at = narrow(rule, harvest, next, f, have, at);
     }
     at
 }

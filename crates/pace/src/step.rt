@@ -1,15 +1,15 @@
 // One frame of the plan with the pace carried along: where the store is neither full nor empty, the budget is the level or
 // one unit more; a full or an empty store sets out anew with a search.
+use super::frame::At;
+use super::frame::Rule;
 use super::frame::frame_at;
 use super::scan::scan;
 use super::search::search;
 ghost use mathlib.Core.Path.{_≡_};
 ghost use mathlib.Core.Bool.{false};
-ghost use Prim.Native.Nat.{_+_, _-_, _≤_, _<_, _^_};
+ghost use Prim.Native.Nat.{_-_, _≤_, _<_};
 ghost use lib.ListN.{length};
-ghost use Rattle.model.specs.Plan.{framesOf};
-ghost use Rattle.pace.specs.Frame.{reserveAt};
-ghost use Rattle.pace.specs.Pace.{Small, Able, Paced, Ahead, Drawn, Stepped};
+ghost use Rattle.pace.specs.Says.{Small, AbleAt, PacedAt, AheadAt, OpenAt, DrawnAt, SteppedAt};
 
 // The budget just drawn and the charge it leaves. Where known, the level lasts from that charge with so much to spare, and
 // one level more does not; where exact, the level leaves nothing over.
@@ -51,27 +51,17 @@ fn carry(have: u64, budget: u64, level: u64, spare: u64, exact: bool, known: boo
     }
 }
 
-// The next budget at a known pace.
-fn go_on(
-    capacity: u64,
-    end: u64,
-    most: u64,
-    harvest: &[u32],
-    next: usize,
-    have: u64,
-    low: u64,
-    high: u64,
-    p: Pace,
-) -> Pace
-    requires { ⌜ Small capacity most × (next ≤ length (now harvest)) × Ahead end (framesOf capacity most (now harvest)) next have low high (p .level) (p .spare) (p .exact) ⌝ }
-    ensures { λ r. ⌜ Drawn end (framesOf capacity most (now (harvest .entry))) next have low high (r .budget) (r .charge) (r .level) (r .spare) (r .exact) (r .known) ⌝ }
+// The budget of a frame that has so much and is followed by the frames from next on, at a known pace.
+fn go_on(rule: Rule, harvest: &[u32], next: usize, f: At, have: u64, p: Pace) -> Pace
+    requires { ⌜ Small rule × (next ≤ length (now harvest)) × AheadAt rule (now harvest) next f have p ⌝ }
+    ensures { λ r. ⌜ DrawnAt rule (now (harvest .entry)) next f have r ⌝ }
 {
     let level = p.level;
-    if level < low {
-        return carry(have, low, level, p.spare, p.exact, true);
+    if level < f.least {
+        return carry(have, f.least, level, p.spare, p.exact, true);
     }
-    if high <= level {
-        return carry(have, high, level, p.spare, p.exact, true);
+    if f.most <= level {
+        return carry(have, f.most, level, p.spare, p.exact, true);
     }
     if p.exact {
         return carry(have, level, level, 0, true, true);
@@ -82,41 +72,24 @@ fn go_on(
     if have <= level {
         return carry(have, level, level, 0, true, true);
     }
-    let found = scan(
-        capacity,
-        end,
-        most,
-        harvest,
-        next,
-        have - (level + 1),
-        level,
-    );
+    let found = scan(rule, harvest, next, have - (level + 1), level);
     if found.ok {
         return carry(have, level + 1, level, found.spare, false, true);
     }
     carry(have, level, level, 0, true, true)
 }
 
-// The next budget where no pace is known, by a search.
-fn set_out(
-    capacity: u64,
-    end: u64,
-    most: u64,
-    harvest: &[u32],
-    next: usize,
-    have: u64,
-    low: u64,
-    high: u64,
-) -> Pace
-    requires { ⌜ Small capacity most × (next ≤ length (now harvest)) × (have ≤ 2 ^ 33) × (high < 2 ^ 32) × (low ≤ high) × (low + reserveAt end (framesOf capacity most (now harvest)) next 0 ≤ have) ⌝ }
-    ensures { λ r. ⌜ Drawn end (framesOf capacity most (now (harvest .entry))) next have low high (r .budget) (r .charge) (r .level) (r .spare) (r .exact) (r .known) ⌝ }
+// The same where no pace is known, by a search.
+fn set_out(rule: Rule, harvest: &[u32], next: usize, f: At, have: u64) -> Pace
+    requires { ⌜ Small rule × (next ≤ length (now harvest)) × OpenAt rule (now harvest) next f have ⌝ }
+    ensures { λ r. ⌜ DrawnAt rule (now (harvest .entry)) next f have r ⌝ }
 {
-    let found = search(capacity, end, most, harvest, next, have, low, high);
+    let found = search(rule, harvest, next, f, have);
     let b = found.good;
-    if b == high {
+    if b == f.most {
         return carry(have, b, 0, 0, false, false);
     }
-    if low < b {
+    if f.least < b {
         return carry(have, b, b - 1, found.spare, false, true);
     }
     if b == 0 {
@@ -126,47 +99,19 @@ fn set_out(
 }
 
 // The plan's budget of frame i, the charge it leaves and the pace to go on with.
-pub fn step(capacity: u64, end: u64, most: u64, harvest: &[u32], i: usize, p: Pace) -> Pace
-    requires { ⌜ Small capacity most × (i < length (now harvest)) × Able end (framesOf capacity most (now harvest)) i (p .charge) × Paced end (framesOf capacity most (now harvest)) i (p .charge) (p .level) (p .spare) (p .exact) (p .known) ⌝ }
-    ensures { λ r. ⌜ Stepped end (framesOf capacity most (now (harvest .entry))) i (p .charge) (r .budget) (r .charge) (r .level) (r .spare) (r .exact) (r .known) ⌝ }
+pub fn step(rule: Rule, harvest: &[u32], i: usize, p: Pace) -> Pace
+    requires { ⌜ Small rule × (i < length (now harvest)) × AbleAt rule (now harvest) i p × PacedAt rule (now harvest) i p ⌝ }
+    ensures { λ r. ⌜ SteppedAt rule (now (harvest .entry)) i p r ⌝ }
 {
-    let f = frame_at(capacity, most, harvest, i);
+    let f = frame_at(rule, harvest, i);
     let a = p.charge + f.inflow;
     if f.ceiling <= a {
-        return set_out(
-            capacity,
-            end,
-            most,
-            harvest,
-            i + 1,
-            f.ceiling - f.drain,
-            f.least,
-            f.most,
-        );
+        return set_out(rule, harvest, i + 1, f, f.ceiling - f.drain);
     }
     if p.known {
         if 0 < p.charge {
-            return go_on(
-                capacity,
-                end,
-                most,
-                harvest,
-                i + 1,
-                a - f.drain,
-                f.least,
-                f.most,
-                p,
-            );
+            return go_on(rule, harvest, i + 1, f, a - f.drain, p);
         }
     }
-    set_out(
-        capacity,
-        end,
-        most,
-        harvest,
-        i + 1,
-        a - f.drain,
-        f.least,
-        f.most,
-    )
+    set_out(rule, harvest, i + 1, f, a - f.drain)
 }

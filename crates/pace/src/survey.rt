@@ -1,11 +1,12 @@
 // A guess at the budget from one pass over the frames ahead: the even budget that first meets an empty store, a full one or
 // the end. The search tries it; nothing depends on it.
+use super::frame::Rule;
 use super::frame::frame_at;
-use super::frame::greater;
-use super::frame::lesser;
+use super::number::greater;
+use super::number::lesser;
 ghost use Prim.Native.Nat.{_+_, _≤_, _<_, _^_};
 ghost use lib.ListN.{length};
-ghost use Rattle.pace.specs.Pace.{Small};
+ghost use Rattle.pace.specs.Says.{Small};
 
 // The most frames that a survey looks at, so that its sums fit.
 const FAR: usize = 1048576;
@@ -47,8 +48,8 @@ fn filling(sum: u64, ceiling: u64, n: u64, low: u64) -> u64
 }
 
 // The guess for a frame that has so much and is followed by the frames from next on.
-pub fn survey(capacity: u64, end: u64, most: u64, harvest: &[u32], next: usize, have: u64) -> u64
-    requires { ⌜ Small capacity most × (have ≤ 2 ^ 33) × (next ≤ length (now harvest)) ⌝ }
+pub fn survey(rule: Rule, harvest: &[u32], next: usize, have: u64) -> u64
+    requires { ⌜ Small rule × (have ≤ 2 ^ 33) × (next ≤ length (now harvest)) ⌝ }
 {
     let mut sum = have;
     let mut high = have;
@@ -59,7 +60,7 @@ pub fn survey(capacity: u64, end: u64, most: u64, harvest: &[u32], next: usize, 
         if FAR < k - next {
             return high;
         }
-        let f = frame_at(capacity, most, harvest, k);
+        let f = frame_at(rule, harvest, k);
         sum += f.inflow;
         low = filling(sum, f.ceiling, n, low);
         if high <= low {
@@ -72,5 +73,5 @@ pub fn survey(capacity: u64, end: u64, most: u64, harvest: &[u32], next: usize, 
         }
         k += 1;
     }
-    greater(low, lasting(sum - lesser(sum, end), n, high))
+    greater(low, lasting(sum - lesser(sum, rule.end), n, high))
 }

@@ -13,15 +13,15 @@ shared-slice-read-wide c = search needs
 wide-requires : tie.Need-wide-requires
 wide-requires c κs = search needs
 
-add-t9 : tie.Need-add-t9
-add-t9 c = search needs
+add-t8 : tie.Need-add-t8
+add-t8 c = search needs
 
 returns : tie.Need-returns
 returns c =
-    let s = c .before .before .before in
-    law.frames-read (s .args .capacity) (s .args .most) (s .args .i) (c .wide .result) (s .args .harvest .now) (s .pre .0) (s .pre .1)
-    (c .wide .ensures .0)
-    (c .wide .ensures .1)
+    let w = c .before in
+    let s = w .before .before .before in
+    law.frames-read (s .args .rule) (s .args .harvest .now) (s .args .i) (w .wide .result) (s .pre .0) (s .pre .1) (w .wide .ensures .0)
+    (w .wide .ensures .1)
 
 pub frame-at-spec : {M : Type 1} → statement M
-frame-at-spec = tie.close (tie.spec mul-wide shared-slice-read-wide wide-requires add-t9 returns)
+frame-at-spec = tie.close (tie.spec mul-wide shared-slice-read-wide wide-requires add-t8 returns)

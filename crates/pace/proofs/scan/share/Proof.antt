@@ -1,3 +1,4 @@
+-- A share is no more than the amount.
 use Prim.Native.Nat.{_+_}
 use native.Mathlib.Nat.{div-le-self}
 use borrow.Author.Needs.{needs}

@@ -1,6 +1,7 @@
+-- One try narrows the range.
 use native.Mathlib.Omega.{arith}
-use Rattle.pace.proofs.Range as law
 use borrow.Author.Needs.{needs}
+use Rattle.pace.proofs.Range as law
 use Rattle.pace.proofs.search.narrow.Statement.{statement}
 use Rattle.pace.proofs.search.narrow.Tie as tie
 
@@ -26,16 +27,28 @@ higher-requires : tie.Need-higher-requires
 higher-requires c κs = search needs
 
 returns : tie.Need-returns
-returns c = let f = c .before .before in let g = f .before .before .before in let s = g .before .before in (law.accepts (s .pre .4) (g .guess .ensures .0) (g .guess .ensures .1) (f .scan .ensures) (c .before .if1 .taken), omega (arith, g .guess .ensures))
+returns c =
+    let f = c .before .before in
+    let g = f .before .before .before in
+    let s = g .before .before in (
+      law.accepts (s .pre .4) (g .guess .ensures .0) (g .guess .ensures .1) (f .scan .ensures) (c .before .if1 .taken),
+      omega (arith, g .guess .ensures),
+    )
+
+sub-t10 : tie.Need-sub-t10
+sub-t10 c = search needs
 
 lower-requires : tie.Need-lower-requires
 lower-requires c κs = search needs
 
-sub-t14 : tie.Need-sub-t14
-sub-t14 c = search needs
-
 returns-2 : tie.Need-returns-2
-returns-2 c = let f = c .before .before in let g = f .before .before .before in let s = g .before .before in (law.rejects (s .pre .4) (g .guess .ensures .0) (g .guess .ensures .1) (f .scan .ensures) (c .before .if1 .left), omega (arith, g .guess .ensures))
+returns-2 c =
+    let f = c .before .before in
+    let g = f .before .before .before in
+    let s = g .before .before in (
+      law.rejects (s .pre .4) (g .guess .ensures .0) (g .guess .ensures .1) (f .scan .ensures) (c .before .if1 .left),
+      omega (arith, g .guess .ensures),
+    )
 
 pub narrow-spec : {M : Type 1} → statement M
 narrow-spec =
@@ -49,6 +62,6 @@ narrow-spec =
     scan-requires
     higher-requires
     returns
+    sub-t10
     lower-requires
-    sub-t14
     returns-2)

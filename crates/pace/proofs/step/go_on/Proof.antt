@@ -1,5 +1,6 @@
-use Rattle.pace.proofs.Carry as law
+-- Each branch at a known pace draws the budget.
 use borrow.Author.Needs.{needs}
+use Rattle.pace.proofs.Carry as law
 use Rattle.pace.proofs.step.go_on.Statement.{statement}
 use Rattle.pace.proofs.step.go_on.Tie as tie
 
@@ -7,19 +8,29 @@ carry-requires : tie.Need-carry-requires
 carry-requires c κs = search needs
 
 returns : tie.Need-returns
-returns c = let s = c .before .before .before in rw (c .carry .ensures) (law.draws-least (s .pre .2) (c .before .if1 .taken))
+returns c =
+    let t = c .before in
+    let s = t .before .before .before in
+    rw (c .carry .ensures) (law.draws-least (s .pre .2) (t .if1 .taken))
 
 carry-requires-2 : tie.Need-carry-requires-2
 carry-requires-2 c κs = search needs
 
 returns-2 : tie.Need-returns-2
-returns-2 c = let s = c .before .before .before .before in rw (c .carry2 .ensures) (law.draws-most (s .pre .2) (c .before .if2 .taken))
+returns-2 c =
+    let t = c .before in
+    let s = t .before .before .before .before .before in
+    rw (c .carry2 .ensures) (law.draws-most (s .pre .2) (t .if2 .taken))
 
 carry-requires-3 : tie.Need-carry-requires-3
 carry-requires-3 c κs = search needs
 
 returns-3 : tie.Need-returns-3
-returns-3 c = let h = c .before .before in let l = h .before in let s = l .before .before in rw (c .carry3 .ensures) (law.draws-exact (s .pre .2) (l .if1 .left) (h .if2 .left) (c .before .if3 .taken))
+returns-3 c =
+    let h = c .before .before in
+    let l = h .before .before in
+    let s = l .before .before .before in
+    rw (c .carry3 .ensures) (law.draws-exact (s .pre .2) (l .if1 .left) (h .if2 .left) (c .before .if3 .taken))
 
 add-carry : tie.Need-add-carry
 add-carry c = search needs
@@ -31,13 +42,23 @@ carry-requires-4 : tie.Need-carry-requires-4
 carry-requires-4 c κs = search needs
 
 returns-4 : tie.Need-returns-4
-returns-4 c = let t = c .before .before in let h = t .before .before .before in let l = h .before in let s = l .before .before in rw (c .carry4 .ensures) (law.draws-spare (s .pre .2) (l .if1 .left) (h .if2 .left) (t .if4 .taken))
+returns-4 c =
+    let t = c .before .before in
+    let h = t .before .before .before in
+    let l = h .before .before in
+    let s = l .before .before .before in
+    rw (c .carry4 .ensures) (law.draws-spare (s .pre .2) (l .if1 .left) (h .if2 .left) (t .if4 .taken))
 
 carry-requires-5 : tie.Need-carry-requires-5
 carry-requires-5 c κs = search needs
 
 returns-5 : tie.Need-returns-5
-returns-5 c = let h = c .before .before .before .before .before in let l = h .before in let s = l .before .before in rw (c .carry5 .ensures) (law.draws-all (s .pre .2) (l .if1 .left) (h .if2 .left) (c .before .if5 .taken))
+returns-5 c =
+    let t = c .before in
+    let h = t .before .before .before .before in
+    let l = h .before .before in
+    let s = l .before .before .before in
+    rw (c .carry5 .ensures) (law.draws-all (s .pre .2) (l .if1 .left) (h .if2 .left) (t .if5 .taken))
 
 add-scan : tie.Need-add-scan
 add-scan c = search needs
@@ -55,13 +76,24 @@ carry-requires-6 : tie.Need-carry-requires-6
 carry-requires-6 c κs = search needs
 
 returns-6 : tie.Need-returns-6
-returns-6 c = let f = c .before .before in let h = f .before .before .before .before .before in let l = h .before in let s = l .before .before in rw (c .carry6 .ensures) (law.draws-scanned (s .pre .2) (l .if1 .left) (h .if2 .left) (f .scan .ensures) (f .before .if5 .left) (c .before .if6 .taken))
+returns-6 c =
+    let f = c .before .before in
+    let h = f .before .before .before .before .before in
+    let l = h .before .before in
+    let s = l .before .before .before in
+    rw (c .carry6 .ensures)
+    (law.draws-scanned (s .pre .2) (l .if1 .left) (h .if2 .left) (f .scan .ensures) (f .before .if5 .left) (c .before .if6 .taken))
 
 carry-requires-7 : tie.Need-carry-requires-7
 carry-requires-7 c κs = search needs
 
 returns-7 : tie.Need-returns-7
-returns-7 c = let f = c .before .before in let h = f .before .before .before .before .before in let l = h .before in let s = l .before .before in rw (c .carry7 .ensures) (law.draws-failed (s .pre .2) (l .if1 .left) (h .if2 .left) (f .scan .ensures) (c .before .if6 .left))
+returns-7 c =
+    let f = c .before .before in
+    let h = f .before .before .before .before .before in
+    let l = h .before .before in
+    let s = l .before .before .before in
+    rw (c .carry7 .ensures) (law.draws-failed (s .pre .2) (l .if1 .left) (h .if2 .left) (f .scan .ensures) (c .before .if6 .left))
 
 pub go-on-spec : {M : Type 1} → statement M
 go-on-spec =

@@ -1,15 +1,17 @@
-use Prim.Native.Nat.{_+_, _*_, _-_, _≤_, _<_, _^_}
+-- The survey's sums fit.
 use mathlib.Core.Path.{_≡_}
+use Prim.Native.Nat.{_+_, _*_, _-_, _≤_, _<_, _^_}
 use lib.ListN.{length}
 use borrow.Author.Needs.{needs}
 use Rattle.pace.proofs.survey.survey.Statement.{statement}
 use Rattle.pace.proofs.survey.survey.Tie as tie
 
 abbrev Inv-loop : tie.InvT-loop
-Inv-loop capacity end most harvest next have sum₀ high₀ low₀ n₀ k₀ sum high low n k = (k ≤ length harvest) × (k + 1 ≡ next + n) × (0 < n) × (n ≤ 1048578) × (sum ≤ 2 ^ 33 + 2 ^ 32 * n) × (low ≤ high) × (high ≤ 2 ^ 33)
+Inv-loop rule harvest next have sum₀ high₀ low₀ n₀ k₀ sum high low n k =
+    (k ≤ length harvest) × (k + 1 ≡ next + n) × (0 < n) × (n ≤ 1048578) × (sum ≤ 2 ^ 33 + 2 ^ 32 * n) × (low ≤ high) × (high ≤ 2 ^ 33)
 
 abbrev μ-loop : tie.MeasureT-loop
-μ-loop capacity end most harvest next have sum₀ high₀ low₀ n₀ k₀ sum high low n k = length harvest - k
+μ-loop rule harvest next have sum₀ high₀ low₀ n₀ k₀ sum high low n k = length harvest - k
 
 loop-holds : tie.Need-loop-holds Inv-loop μ-loop
 loop-holds c = search needs
