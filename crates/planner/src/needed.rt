@@ -1,6 +1,6 @@
 // The capacity that a request needs.
 ghost use Rattle.planner.specs.Says.{NeededSays};
-use pace::frame::greater;
+use pace::number::greater;
 use pace::peak::peak_charge;
 use request::entries::needed_refusal;
 use request::refusals::is_none;
