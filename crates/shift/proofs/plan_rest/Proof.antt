@@ -32,7 +32,12 @@ is-none-requires : tie.Need-is-none-requires
 is-none-requires c κs = search needs
 
 returns : tie.Need-returns
-returns c = let s = c .before .before .before .before .before .args in let f = c .before .before .rest-refusal in law.rest-refused (s .shift) (s .harvest .now) (s .budgets .now) (f .result) (f .ensures) (sym (c .before .is-none .ensures) ∙ not-true (c .before .is-none .result) (c .if1 .taken))
+returns c =
+    let n = c .before in
+    let f = n .before in
+    let s = f .before .before .before .args in
+    law.rest-refused (s .shift) (s .harvest .now) (s .budgets .now) (f .rest-refusal .result) (f .rest-refusal .ensures)
+    (sym (n .is-none .ensures) ∙ not-true (n .is-none .result) (c .if1 .taken))
 
 cast-from : tie.Need-cast-from
 cast-from c = search needs
@@ -56,7 +61,10 @@ part-rest-end : tie.Need-part-rest-end
 part-rest-end c = search needs
 
 sum-requires : tie.Need-sum-requires
-sum-requires c κs = let s = c .before .before .before .before .before .before .before .before .before .args in law.rest-few (s .shift) (s .harvest .now) (s .budgets .now) (clear (c .before .before .before .before))
+sum-requires c κs =
+    let e = c .before .before .before .before in
+    let s = e .before .before .before .before .before .args in
+    law.rest-few (s .shift) (s .harvest .now) (s .budgets .now) (clear e)
 
 add-most : tie.Need-add-most
 add-most c = search needs
@@ -83,7 +91,14 @@ same-length : tie.Need-same-length
 same-length c = search needs
 
 returns-2 : tie.Need-returns-2
-returns-2 c = let s = c .before .before .before .before .before .before .before .before .before .before .before .before .before .before .before .args in let m = c .before .before .before .before .before .sum in let z = c .before .before .clear in law.rest-short (s .shift) (s .harvest .now) (s .budgets .now) (clear (c .before .before .before .before .before .before .before .before .before .before)) (m .result) (z .last .0) (m .ensures .0) (c .before .before .before .before .if2 .taken) (z .ensures)
+returns-2 c =
+    let z = c .before .before in
+    let t = z .before .before in
+    let m = t .before in
+    let e = m .before .before .before .before .before in
+    let s = e .before .before .before .before .before .args in
+    law.rest-short (s .shift) (s .harvest .now) (s .budgets .now) (clear e)
+    (m .sum .result) (z .clear .last .0) (m .sum .ensures .0) (t .if2 .taken) (z .clear .ensures)
 
 cast-plan-into : tie.Need-cast-plan-into
 cast-plan-into c = search needs
@@ -101,13 +116,25 @@ part-plan-into-end : tie.Need-part-plan-into-end
 part-plan-into-end c = search needs
 
 plan-into-requires : tie.Need-plan-into-requires
-plan-into-requires c κs = let s = c .before .before .before .before .before .before .before .before .before .before .before .before .before .args in let m = c .before .before .before .sum in (law.rest-ready (s .shift) (s .harvest .now) (s .budgets .now) (clear (c .before .before .before .before .before .before .before .before)) (m .result) (m .ensures .0) (c .before .before .if2 .left), law.rest-fits (s .shift) (s .harvest .now) (s .budgets .now) (clear (c .before .before .before .before .before .before .before .before)))
+plan-into-requires c κs =
+    let t = c .before .before in
+    let m = t .before in
+    let e = m .before .before .before .before .before in
+    let s = e .before .before .before .before .before .args in
+    (law.rest-ready (s .shift) (s .harvest .now) (s .budgets .now) (clear e) (m .sum .result) (m .sum .ensures .0) (t .if2 .left), law.rest-fits (s .shift) (s .harvest .now) (s .budgets .now) (clear e))
 
 same-length-2 : tie.Need-same-length-2
 same-length-2 c = search needs
 
 returns-3 : tie.Need-returns-3
-returns-3 c = let s = c .before .before .before .before .before .before .before .before .before .before .before .before .before .before .before .before .args in let m = c .before .before .before .before .before .before .sum in let z = c .before .before .plan-into in law.rest-planned (s .shift) (s .harvest .now) (s .budgets .now) (clear (c .before .before .before .before .before .before .before .before .before .before .before)) (m .result) (z .last .1 .1 .1 .1 .1 .0) (m .ensures .0) (c .before .before .before .before .before .if2 .left) (z .ensures)
+returns-3 c =
+    let z = c .before .before in
+    let t = z .before .before .before in
+    let m = t .before in
+    let e = m .before .before .before .before .before in
+    let s = e .before .before .before .before .before .args in
+    law.rest-planned (s .shift) (s .harvest .now) (s .budgets .now) (clear e)
+    (m .sum .result) (z .plan-into .last .1 .1 .1 .1 .1 .0) (m .sum .ensures .0) (t .if2 .left) (z .plan-into .ensures)
 
 pub plan-rest-spec : {M : Type 1} → statement M
 plan-rest-spec =

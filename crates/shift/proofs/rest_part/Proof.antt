@@ -31,7 +31,12 @@ part-result-end : tie.Need-part-result-end
 part-result-end c = search needs
 
 returns : tie.Need-returns
-returns c = let s = c .before .before .before .before .before .args in let f = c .before .before .before .part-refusal in law.part-refused (s .shift) (s .budgets .now) (s .budgets .ptr) (bySize 4 0 (s .budgets .ptr .1)) (f .result) (omega arith) (f .ensures) (c .before .if1 .taken)
+returns c =
+    let t = c .before in
+    let f = t .before .before in
+    let s = f .before .before .args in
+    law.part-refused (s .shift) (s .budgets .now) (s .budgets .ptr) (bySize 4 0 (s .budgets .ptr .1))
+    (f .part-refusal .result) (omega arith) (f .part-refusal .ensures) (t .if1 .taken)
 
 cast-next : tie.Need-cast-next
 cast-next c = search needs
@@ -49,7 +54,14 @@ part-result-end-2 : tie.Need-part-result-end-2
 part-result-end-2 c = search needs
 
 returns-2 : tie.Need-returns-2
-returns-2 c = let s = c .before .before .before .before .before .before .args in let f = c .before .before .before .before .part-refusal in law.part-returned (s .shift) (s .budgets .now) (take (length (s .budgets .now) - s .shift .recorded) (drop (s .shift .recorded) (s .budgets .now))) (s .budgets .ptr) (bySize 4 (s .shift .recorded) (s .budgets .ptr .1)) (f .result) (omega arith) (law.part-is (s .shift .recorded) (s .budgets .now)) (f .ensures) (c .before .before .if1 .left)
+returns-2 c =
+    let e = c .before .before in
+    let f = e .before .before in
+    let s = f .before .before .args in
+    let n = s .shift .recorded in
+    let b = s .budgets .now in
+    law.part-returned (s .shift) b (take (length b - n) (drop n b)) (s .budgets .ptr) (bySize 4 n (s .budgets .ptr .1))
+    (f .part-refusal .result) (omega arith) (law.part-is n b) (f .part-refusal .ensures) (e .if1 .left)
 
 pub rest-part-spec : {M : Type 1} → statement M
 rest-part-spec =

@@ -26,13 +26,24 @@ is-none-requires : tie.Need-is-none-requires
 is-none-requires c κs = search needs
 
 returns : tie.Need-returns
-returns c = let s = c .before .before .before .before .args in let f = c .before .before .start-refusal in law.start-refused (request (s .capacity) (s .start) (s .end) (s .harvest .now)) (f .result) (f .ensures) (sym (c .before .is-none .ensures) ∙ not-true (c .before .is-none .result) (c .if1 .taken))
+returns c =
+    let n = c .before in
+    let f = n .before in
+    let s = f .before .before .args in
+    law.start-refused (request (s .capacity) (s .start) (s .end) (s .harvest .now)) (f .start-refusal .result) (f .start-refusal .ensures)
+    (sym (n .is-none .ensures) ∙ not-true (n .is-none .result) (c .if1 .taken))
 
 cast-t9 : tie.Need-cast-t9
-cast-t9 c = let s = c .before .before .before .before .args in let w = start-within (request (s .capacity) (s .start) (s .end) (s .harvest .now)) (clear c) in omega arith
+cast-t9 c =
+    let s = c .before .before .before .before .args in
+    let w = start-within (request (s .capacity) (s .start) (s .end) (s .harvest .now)) (clear c) in
+    omega arith
 
 returns-2 : tie.Need-returns-2
-returns-2 c = let s = c .before .before .before .before .args in law.start-done (request (s .capacity) (s .start) (s .end) (s .harvest .now)) (started (request (s .capacity) (s .start) (s .end) (s .harvest .now))) (clear c) refl
+returns-2 c =
+    let s = c .before .before .before .before .args in
+    let q = request (s .capacity) (s .start) (s .end) (s .harvest .now) in
+    law.start-done q (started q) (clear c) refl
 
 pub start-spec : {M : Type 1} → statement M
 start-spec = tie.close (tie.spec start-refusal-requires is-none-requires returns cast-t9 returns-2)

@@ -23,13 +23,21 @@ is-none-requires : tie.Need-is-none-requires
 is-none-requires c κs = search needs
 
 returns : tie.Need-returns
-returns c = let s = c .before .before .before .args in let f = c .before .before .record-refusal in law.record-refused (s .self) (s .harvest) (s .used) (f .result) (f .ensures) (sym (c .before .is-none .ensures) ∙ not-true (c .before .is-none .result) (c .if1 .taken))
+returns c =
+    let n = c .before in
+    let f = n .before in
+    let s = f .before .args in
+    law.record-refused (s .self) (s .harvest) (s .used) (f .record-refusal .result) (f .record-refusal .ensures)
+    (sym (n .is-none .ensures) ∙ not-true (n .is-none .result) (c .if1 .taken))
 
 recorded-by-requires : tie.Need-recorded-by-requires
 recorded-by-requires c κs = clear c
 
 returns-2 : tie.Need-returns-2
-returns-2 c = let s = c .before .before .before .before .args in law.record-done (s .self) (s .harvest) (s .used) (c .recorded-by .result) (clear (c .before)) (c .recorded-by .ensures)
+returns-2 c =
+    let e = c .before in
+    let s = e .before .before .before .args in
+    law.record-done (s .self) (s .harvest) (s .used) (c .recorded-by .result) (clear e) (c .recorded-by .ensures)
 
 pub record-spec : {M : Type 1} → statement M
 record-spec =

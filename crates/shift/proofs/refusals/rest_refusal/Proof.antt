@@ -31,7 +31,12 @@ is-none-requires : tie.Need-is-none-requires
 is-none-requires c κs = search needs
 
 returns : tie.Need-returns
-returns c = let s = c .before .before .before .before .args in let f = c .before .before .ready-refusal in law.rest-stopped (s .s) (s .harvest .now) (s .budgets) (f .result) (f .ensures) (sym (c .before .is-none .ensures) ∙ not-true (c .before .is-none .result) (c .if1 .taken))
+returns c =
+    let n = c .before in
+    let f = n .before in
+    let s = f .before .before .args in
+    law.rest-stopped (s .s) (s .harvest .now) (s .budgets) (f .ready-refusal .result) (f .ready-refusal .ensures)
+    (sym (n .is-none .ensures) ∙ not-true (n .is-none .result) (c .if1 .taken))
 
 cast-from : tie.Need-cast-from
 cast-from c = search needs

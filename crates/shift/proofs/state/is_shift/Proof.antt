@@ -40,7 +40,25 @@ balances-requires : tie.Need-balances-requires
 balances-requires c κs = search needs
 
 returns-9 : tie.Need-returns-9
-returns-9 c = c .balances .ensures ∙ law.by-balance (c .before .before .before .before .before .before .before .before .before .before .before .before .before .before .before .before .before .before .args .s) (c .before .before .before .before .before .before .before .before .before .before .before .before .before .before .before .before .if1 .left) (omega (arith, c .before .before .before .before .before .before .before .before .before .before .before .before .before .before .if2 .left)) (c .before .before .before .before .before .before .before .before .before .before .before .before .if3 .left) (c .before .before .before .before .before .before .before .before .before .before .if4 .left) (c .before .before .before .before .before .before .before .before .if5 .left) (c .before .before .before .before .before .before .if6 .left) (c .before .before .before .before .if7 .left) (c .before .if8 .left)
+returns-9 c =
+    let e8 = c .before in
+    let e7 = e8 .before .before .before in
+    let e6 = e7 .before .before in
+    let e5 = e6 .before .before in
+    let e4 = e5 .before .before in
+    let e3 = e4 .before .before in
+    let e2 = e3 .before .before in
+    let e1 = e2 .before .before in
+    c .balances .ensures
+    ∙ law.by-balance (e1 .before .before .args .s)
+    (e1 .if1 .left)
+    (omega (arith, e2 .if2 .left))
+    (e3 .if3 .left)
+    (e4 .if4 .left)
+    (e5 .if5 .left)
+    (e6 .if6 .left)
+    (e7 .if7 .left)
+    (e8 .if8 .left)
 
 pub is-shift-spec : {M : Type 1} → statement M
 is-shift-spec =
