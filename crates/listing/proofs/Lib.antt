@@ -1,0 +1,3 @@
+-- Laws of text written on, and of decimal digits.
+pub mod Written
+pub mod Decimal

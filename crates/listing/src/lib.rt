@@ -1,0 +1,3 @@
+// The text that the plan program prints, written into a lent list of bytes.
+pub mod lines;
+pub mod text;
