@@ -1,3 +1,6 @@
--- Laws of text written on, and of decimal digits.
+-- Laws of text written on, of decimal digits, of the frames' lines, and of the answers that the listing shows.
 pub mod Written
 pub mod Decimal
+pub mod FrameLines
+pub mod Answers
+pub mod Cases

@@ -63,11 +63,14 @@ worthLine a b c = worthLabel ++ (decimal a ++ (space ++ (decimal b ++ (space ++ 
 abbrev pub refusedLine : Refusal → List ℕ
 refusedLine f = refusedLabel ++ (decimal (f .number) ++ (space ++ (decimal (f .p) ++ lineEnd)))
 
+-- the lines of budgets and the charges after them, and what the budgets are worth
+abbrev pub framesText : Request → List ℕ → List ℕ
+framesText q bs =
+    frameLines 1 bs (charges q bs) ++ worthLine (grade (houseCurve 0) bs) (grade (houseCurve 1) bs) (grade (houseCurve 2) bs)
+
 -- the listing of a request that is not refused, with its budgets
 abbrev pub budgetsText : Request → List ℕ → List ℕ
-budgetsText q bs =
-    firstLine (frameCount q) (q .capacity) (neededOf q)
-    ++ (frameLines 1 bs (charges q bs) ++ worthLine (grade (houseCurve 0) bs) (grade (houseCurve 1) bs) (grade (houseCurve 2) bs))
+budgetsText q bs = firstLine (frameCount q) (q .capacity) (neededOf q) ++ framesText q bs
 
 -- the listing of a request: its plan, or its refusal
 abbrev pub requestText : Request → List ℕ

@@ -1,3 +1,7 @@
 // The text that the plan program prints, written into a lent list of bytes.
+pub mod frames;
 pub mod lines;
+pub mod listings;
 pub mod text;
+
+pub use listings::list;
