@@ -1,12 +1,11 @@
 -- The frames of a request, read one by one.
-use mathlib.Core.Path.{_≡_, refl, ap, _∙_}
+use mathlib.Core.Path.{_≡_, refl, ap}
 use mathlib.Core.List.{List, [], _∷_}
 use Prim.Native.Nat.{ℕ, zero, suc, _+_, _<_, _≤_, _^_}
 use native.Mathlib.Numerals.{add-one}
 use native.Mathlib.Omega.{arith}
 use lib.ListN.{length, drop, getD}
 use lib.Seq.{drop-cons}
-use Rattle.model.specs.Frames.{Frame}
 use Rattle.model.specs.Plan.{frameOf, framesOf}
 use Rattle.pace.specs.Frame.{Read}
 use Rattle.pace.specs.declared.frame.Rule.{Rule}

@@ -1,11 +1,10 @@
 -- The range of budgets that a search has caught: one trial narrows it, and where it is one number, that is the budget.
-use mathlib.Core.Path.{_≡_, refl, sym, _∙_}
+use mathlib.Core.Path.{_≡_}
 use mathlib.Core.Bool.{Bool, true, false}
 use mathlib.Core.List.{List}
-use Prim.Native.Nat.{ℕ, _+_, _-_, _≤_, _<_, _^_, min, max}
+use Prim.Native.Nat.{ℕ, _-_, _≤_, _<_, min}
 use native.Mathlib.Omega.{arith}
 use Rattle.model.specs.Frames.{Frame}
-use Rattle.pace.specs.Frame.{reserveAt}
 use Rattle.pace.specs.Scan.{Scanned}
 use Rattle.pace.specs.Search.{Between}
 

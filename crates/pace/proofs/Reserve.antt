@@ -1,12 +1,11 @@
 -- The reserve of a level for the frames from a number on: what it is at a frame and at the end, and that it grows with the level.
-use mathlib.Core.Path.{_≡_, refl, ap}
-use mathlib.Core.List.{List, [], _∷_}
-use Prim.Native.Nat.{ℕ, _+_, _-_, _≤_, _<_, min, max}
-use native.Mathlib.Omega.{arith}
+use mathlib.Core.Path.{_≡_}
+use mathlib.Core.List.{List}
+use Prim.Native.Nat.{ℕ, _+_, _-_, _≤_, min}
 use lib.ListN.{length, drop, drop-of-length-le}
 use Rattle.model.specs.Frames.{Frame, reserve}
 use Rattle.model.proofs.Reserve.{reserve-grows}
-use Rattle.pace.specs.Frame.{frame, drawn, reserveAt, Read}
+use Rattle.pace.specs.Frame.{drawn, reserveAt, Read}
 
 -- the reserve grows with the level
 pub grows : (e : ℕ) (fs : List Frame) (i l m : ℕ) → l ≤ m → reserveAt e fs i l ≤ reserveAt e fs i m

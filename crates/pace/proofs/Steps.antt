@@ -1,11 +1,11 @@
 -- A frame's budget found is the plan's budget, and the plan goes on from what it leaves.
 use mathlib.Core.Path.{_≡_, ap, subst}
-use mathlib.Core.Bool.{Bool, true, false}
+use mathlib.Core.Bool.{Bool}
 use mathlib.Core.List.{List, [], _∷_}
 use Prim.Native.Nat.{ℕ, _+_, _-_, _≤_, _<_, _^_, min, max}
 use native.Mathlib.Omega.{arith}
-use lib.ListN.{length, drop}
-use Rattle.model.specs.Frames.{Frame, room, left, Allowed, Feasible, draw, reserve, budget, plan}
+use lib.ListN.{drop}
+use Rattle.model.specs.Frames.{Frame, left, Allowed, Feasible, draw, reserve, budget, plan}
 use Rattle.model.proofs.Budget.{IsLargest, budget-is, one-largest, largest-found}
 use Rattle.pace.specs.Frame.{frame, reserveAt, Read}
 use Rattle.pace.specs.Search.{Between}

@@ -1,8 +1,8 @@
 -- The pace that is carried from frame to frame, and what a step with it gives.
 use mathlib.Core.Path.{_≡_}
-use mathlib.Core.Bool.{Bool, true, false}
+use mathlib.Core.Bool.{Bool, true}
 use mathlib.Core.List.{List, _∷_}
-use Prim.Native.Nat.{ℕ, _+_, _-_, _≤_, _<_, _^_, max, min}
+use Prim.Native.Nat.{ℕ, _+_, _-_, _≤_, _<_, _^_, max}
 use lib.ListN.{drop}
 use Rattle.model.specs.Request.{total}
 use Rattle.model.specs.Frames.{Frame, Feasible, plan}
