@@ -13,7 +13,7 @@
  *    4  start above capacity
  *    5  end above capacity
  *    6  a harvest above 400,000; p is the earliest such frame, from 1
- *    7  a list whose length is not K, or one too short for the file or the text
+ *    7  a list whose length is not K, or one too short for the file
  *    8  a malformed file; p is the word's place, from 0
  *    9  start plus all harvest is below the end charge; p is the amount missing
  *   20  every frame is recorded already
@@ -135,13 +135,6 @@ struct EnergyWriteAnswer {
     uint64_t bytes;
 };
 
-/* number and p: the refusal that the text states, 0 if it is a plan. bytes: how many bytes were written. */
-struct EnergyListingAnswer {
-    uint32_t number;
-    uint64_t p;
-    uint64_t bytes;
-};
-
 /* Writes the plan of a request into `budgets`, which has an entry for each harvest.
  * Refuses 1, 2, 7, 3, 4, 5, 6, 9, in this order. */
 struct EnergyPlanAnswer energy_plan(uint32_t capacity, uint32_t start, uint32_t end,
@@ -193,15 +186,10 @@ struct EnergyWriteAnswer energy_write(uint32_t capacity, uint32_t start, uint32_
                                       const uint32_t *harvest, size_t harvest_length,
                                       uint8_t *file, size_t file_length);
 
-/* Writes what the plan program prints for a word file into `text`: the plan's lines, or `refused`, the number and p;
- * the surplus of `text` keeps its values. The text has room for ENERGY_LISTING_BYTES, and the other three lists, which
- * are working room, for ENERGY_MAX_FRAMES each: with less in any of them nothing is altered, bytes is 0 and number 7.
- * After a plan the working lists begin with its harvests, budgets and charges; after a refusal their contents are open. */
-struct EnergyListingAnswer energy_listing(const uint8_t *file, size_t file_length,
-                                          uint32_t *harvest, size_t harvest_length,
-                                          uint32_t *budgets, size_t budgets_length,
-                                          int64_t *charges, size_t charges_length,
-                                          uint8_t *text, size_t text_length);
+/* Writes what the plan program prints for a word file into `text`: the plan's lines, or `refused`, the number and p.
+ * Returns the number of bytes written: as much of the text as there is room for, and any listing has room in
+ * ENERGY_LISTING_BYTES. The surplus of `text` keeps its values. */
+size_t energy_listing(const uint8_t *file, size_t file_length, uint8_t *text, size_t text_length);
 
 #ifdef __cplusplus
 }

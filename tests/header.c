@@ -76,8 +76,7 @@ static void shift(void)
 
 static void files(void)
 {
-    static uint32_t read_harvest[ENERGY_MAX_FRAMES], budgets[ENERGY_MAX_FRAMES];
-    static int64_t charges[ENERGY_MAX_FRAMES];
+    static uint32_t read_harvest[ENERGY_MAX_FRAMES];
     static uint8_t file[ENERGY_MAX_FILE_BYTES], text[ENERGY_LISTING_BYTES];
     struct EnergyWriteAnswer written = energy_write(5, 2, 2, harvest, 6, file, sizeof file);
     refusal("write", written.number, written.p);
@@ -88,11 +87,8 @@ static void files(void)
     printf(" %d", memcmp(harvest, read_harvest, sizeof harvest));
     back = energy_read(file, written.bytes - 1, read_harvest, ENERGY_MAX_FRAMES);
     refusal("\nread", back.number, back.p);
-    struct EnergyListingAnswer listing;
-    listing = energy_listing(file, written.bytes, read_harvest, ENERGY_MAX_FRAMES, budgets, ENERGY_MAX_FRAMES, charges,
-                             ENERGY_MAX_FRAMES, text, sizeof text);
-    refusal("\nlisting", listing.number, listing.p);
-    printf("\n%.*s", (int)listing.bytes, (const char *)text);
+    size_t listed = energy_listing(file, written.bytes, text, sizeof text);
+    printf("\nlisting: %zu\n%.*s", listed, (int)listed, (const char *)text);
 }
 
 int main(void)

@@ -1,9 +1,10 @@
-//! Document 01's entries over the carried pace: the baseline for speed, and what is tested until the library is linked.
+//! Document 01's entries over the carried pace, the rest as in the reference: the baseline for speed, and what is tested where no
+//! library is linked.
 
 use crate::algorithms::pace;
 use crate::interface::Energy;
-use crate::reference::{curves, listing, refusals, shift, tracer, wordfile};
-use crate::types::{Figures, FileRead, Listed, NotRecorded, Refusal, Rest, Shift, Verdict};
+use crate::reference::{listing, refusals, shift, Reference};
+use crate::types::{Figures, FileRead, NotRecorded, Refusal, Rest, Shift, Verdict};
 
 /// The fast implementation in Rust.
 pub struct Fast;
@@ -37,21 +38,19 @@ impl Energy for Fast {
         budgets: &[u32],
         charges: &mut [i64],
     ) -> Result<Verdict, Refusal> {
-        refusals::trace(figures, harvest, budgets.len(), charges.len())?;
-        Ok(tracer::trace(figures, harvest, budgets, charges))
+        Reference.trace(figures, harvest, budgets, charges)
     }
 
     fn grade(&self, budgets: &[u32]) -> Result<[u64; 3], Refusal> {
-        refusals::frames(budgets.len())?;
-        Ok(curves::grade(budgets))
+        Reference.grade(budgets)
     }
 
     fn shift_start(&self, figures: Figures, harvest: &[u32]) -> Result<Shift, Refusal> {
-        shift::start(figures, harvest)
+        Reference.shift_start(figures, harvest)
     }
 
     fn shift_record(&self, shift: Shift, harvest: u32, used: u32) -> Result<Shift, NotRecorded> {
-        shift::record(shift, harvest, used)
+        Reference.shift_record(shift, harvest, used)
     }
 
     fn shift_plan_rest(&self, shift: Shift, harvest: &[u32], budgets: &mut [u32]) -> Result<Rest, Refusal> {
@@ -59,18 +58,18 @@ impl Energy for Fast {
     }
 
     fn shift_rest_part<'a>(&self, shift: Shift, budgets: &'a [u32]) -> Result<&'a [u32], Refusal> {
-        shift::rest_part(shift, budgets)
+        Reference.shift_rest_part(shift, budgets)
     }
 
     fn read(&self, file: &[u8], harvest: &mut [u32]) -> Result<FileRead, Refusal> {
-        wordfile::read(file, harvest)
+        Reference.read(file, harvest)
     }
 
     fn write(&self, figures: Figures, harvest: &[u32], file: &mut [u8]) -> Result<usize, Refusal> {
-        wordfile::write(figures, harvest, file)
+        Reference.write(figures, harvest, file)
     }
 
-    fn listing(&self, file: &[u8], text: &mut [u8]) -> Listed {
+    fn listing(&self, file: &[u8], text: &mut [u8]) -> usize {
         listing::listing(self, file, text)
     }
 }

@@ -2,7 +2,7 @@
 
 use crate::interface::Energy;
 use crate::reference::limits::MAX_FRAMES;
-use crate::types::{Figures, FileRead, Listed, NotRecorded, Refusal, Rest, Shift, Verdict};
+use crate::types::{Figures, FileRead, NotRecorded, Refusal, Rest, Shift, Verdict};
 
 /// The declarations of `include/energy.h`.
 mod c {
@@ -141,15 +141,9 @@ mod c {
         pub fn energy_listing(
             file: *const u8,
             file_length: usize,
-            harvest: *mut u32,
-            harvest_length: usize,
-            budgets: *mut u32,
-            budgets_length: usize,
-            charges: *mut i64,
-            charges_length: usize,
             text: *mut u8,
             text_length: usize,
-        ) -> WriteAnswer;
+        ) -> usize;
     }
 }
 
@@ -314,28 +308,8 @@ impl Energy for Linked {
         accepted(answer.number, answer.p, &[answer.bytes], || answer.bytes as usize)
     }
 
-    fn listing(&self, file: &[u8], text: &mut [u8]) -> Listed {
-        let mut harvest = vec![0_u32; MAX_FRAMES];
-        let mut budgets = vec![0_u32; MAX_FRAMES];
-        let mut charges = vec![0_i64; MAX_FRAMES];
-        // SAFETY: all lists are valid for their lengths, and a mutable list overlaps no other.
-        let answer = unsafe {
-            c::energy_listing(
-                file.as_ptr(),
-                file.len(),
-                harvest.as_mut_ptr(),
-                harvest.len(),
-                budgets.as_mut_ptr(),
-                budgets.len(),
-                charges.as_mut_ptr(),
-                charges.len(),
-                text.as_mut_ptr(),
-                text.len(),
-            )
-        };
-        Listed {
-            bytes: answer.bytes as usize,
-            refusal: accepted(answer.number, answer.p, &[], || ()).err(),
-        }
+    fn listing(&self, file: &[u8], text: &mut [u8]) -> usize {
+        // SAFETY: both lists are valid for their lengths, and the mutable one does not overlap the other.
+        unsafe { c::energy_listing(file.as_ptr(), file.len(), text.as_mut_ptr(), text.len()) }
     }
 }

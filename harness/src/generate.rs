@@ -383,8 +383,8 @@ fn read(random: &mut Random) -> Case {
 
 /// Listing a file.
 fn listing(random: &mut Random) -> Case {
-    let room = if random.one_in(50) {
-        LISTING_BYTES - 1
+    let room = if random.one_in(10) {
+        random.up_to(100) as usize
     } else {
         LISTING_BYTES
     };

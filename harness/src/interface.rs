@@ -1,6 +1,6 @@
 //! The public calls of the planner as one trait, so that every implementation is tested in the same way.
 
-use crate::types::{Figures, FileRead, Listed, NotRecorded, Refusal, Rest, Shift, Verdict};
+use crate::types::{Figures, FileRead, NotRecorded, Refusal, Rest, Shift, Verdict};
 
 /// Document 01's entries. A lent list is altered only where the call is accepted.
 pub trait Energy {
@@ -43,7 +43,7 @@ pub trait Energy {
     /// Writes a word file and gives its length; bytes beyond it keep their values.
     fn write(&self, figures: Figures, harvest: &[u32], file: &mut [u8]) -> Result<usize, Refusal>;
 
-    /// Writes what the plan program prints for a file; bytes beyond it keep their values.
-    /// The text must have room for `limits::LISTING_BYTES`; with less nothing is written and the refusal is 7.
-    fn listing(&self, file: &[u8], text: &mut [u8]) -> Listed;
+    /// Writes what the plan program prints for a file, as far as there is room, and gives the number of bytes;
+    /// bytes beyond it keep their values.
+    fn listing(&self, file: &[u8], text: &mut [u8]) -> usize;
 }

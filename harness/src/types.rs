@@ -148,10 +148,3 @@ pub struct FileRead {
     pub figures: Figures,
     pub frames: u32,
 }
-
-/// What the listing of a file is: the text's length, and the refusal that it prints, if any.
-#[derive(Clone, Copy, Debug, PartialEq, Eq)]
-pub struct Listed {
-    pub bytes: usize,
-    pub refusal: Option<Refusal>,
-}

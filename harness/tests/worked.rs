@@ -167,6 +167,6 @@ fn the_listing() {
 /// The text that an implementation lists.
 fn listing(energy: &dyn Energy, file: &[u8]) -> String {
     let mut text = vec![0; LISTING_BYTES];
-    let listed = energy.listing(file, &mut text);
-    String::from_utf8(text[..listed.bytes].to_vec()).expect("a listing is plain text")
+    let bytes = energy.listing(file, &mut text);
+    String::from_utf8(text[..bytes].to_vec()).expect("a listing is plain text")
 }

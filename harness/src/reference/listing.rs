@@ -1,8 +1,8 @@
 //! What the plan program prints for a word file.
 
-use super::limits::{LISTING_BYTES, MAX_FRAMES};
+use super::limits::MAX_FRAMES;
 use crate::interface::Energy;
-use crate::types::{Listed, Refusal};
+use crate::types::Refusal;
 
 /// The text of a file's plan, by the calls of an implementation.
 fn text_of(energy: &dyn Energy, file: &[u8]) -> Result<String, Refusal> {
@@ -24,21 +24,10 @@ fn text_of(energy: &dyn Energy, file: &[u8]) -> Result<String, Refusal> {
     Ok(text)
 }
 
-/// Writes the text, or the refusal, into a list with room for any listing.
-pub fn listing(energy: &dyn Energy, file: &[u8], text: &mut [u8]) -> Listed {
-    if text.len() < LISTING_BYTES {
-        return Listed {
-            bytes: 0,
-            refusal: Some(Refusal::WrongLength),
-        };
-    }
-    let (written, refusal) = match text_of(energy, file) {
-        Ok(written) => (written, None),
-        Err(refusal) => (format!("{refusal}\n"), Some(refusal)),
-    };
-    text[..written.len()].copy_from_slice(written.as_bytes());
-    Listed {
-        bytes: written.len(),
-        refusal,
-    }
+/// Writes the text, or the refusal, as far as there is room, and gives the number of bytes.
+pub fn listing(energy: &dyn Energy, file: &[u8], text: &mut [u8]) -> usize {
+    let whole = text_of(energy, file).unwrap_or_else(|refusal| format!("{refusal}\n"));
+    let bytes = whole.len().min(text.len());
+    text[..bytes].copy_from_slice(&whole.as_bytes()[..bytes]);
+    bytes
 }

@@ -15,7 +15,7 @@ pub mod tracer;
 pub mod wordfile;
 
 use crate::interface::Energy;
-use crate::types::{Figures, FileRead, Listed, NotRecorded, Refusal, Rest, Shift, Verdict};
+use crate::types::{Figures, FileRead, NotRecorded, Refusal, Rest, Shift, Verdict};
 
 /// The independent implementation.
 pub struct Reference;
@@ -81,7 +81,7 @@ impl Energy for Reference {
         wordfile::write(figures, harvest, file)
     }
 
-    fn listing(&self, file: &[u8], text: &mut [u8]) -> Listed {
+    fn listing(&self, file: &[u8], text: &mut [u8]) -> usize {
         listing::listing(self, file, text)
     }
 }
