@@ -138,12 +138,7 @@ mod c {
             file_length: usize,
         ) -> WriteAnswer;
 
-        pub fn energy_listing(
-            file: *const u8,
-            file_length: usize,
-            text: *mut u8,
-            text_length: usize,
-        ) -> usize;
+        pub fn energy_listing(file: *const u8, file_length: usize, text: *mut u8, text_length: usize) -> usize;
     }
 }
 
