@@ -2,5 +2,6 @@
 pub mod Flat
 pub mod PlannerAnswers
 pub mod TraceAnswers
+pub mod GradeAnswers
 pub mod ShiftAnswers
 pub mod FileAnswers

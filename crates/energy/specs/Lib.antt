@@ -3,5 +3,6 @@ pub mod Flat
 pub mod Plan
 pub mod Needed
 pub mod Trace
+pub mod Grade
 pub mod Shifts
 pub mod Files
