@@ -7,14 +7,12 @@ ghost use Rattle.shift.specs.Rest.{partRefusal, readyRefusals, restRefus
 use crate::Shift;
 use crate::state::is_shift;
 use model::Refusal;
+use model::limits::MAX_HARVEST;
 use request::figures::harvest_refusal;
 use request::frames::length_refusal;
 use request::refusals::first_of;
 use request::refusals::is_none;
 use request::refusals::refuse_if;
-
-// The largest harvest of a frame.
-const MAX_HARVEST: u32 = 400_000;
 
 // Refusal 22.
 pub fn shift_refusal(s: Shift) -> Refusal

@@ -4,13 +4,14 @@ ghost use Prim.Native.Nat.{_+_, _^_, _<_};
 ghost use lib.Dec.{eqb};
 ghost use Rattle.shift.specs.Shift.{isShift};
 use crate::Shift;
+use model::limits::MAX_CAPACITY;
+use model::limits::MAX_FRAMES;
+use model::limits::MAX_HARVEST;
 
-// The most frames, the largest harvest of a frame and the largest capacity.
-const MAX_FRAMES: u32 = 2976;
+// Limits at the width of the fields that they are compared with.
+const FRAMES_LIMIT: u32 = MAX_FRAMES as u32;
 
-const MAX_HARVEST: u64 = 400_000;
-
-const MAX_CAPACITY: u32 = 1_000_000_000;
+const HARVEST_LIMIT: u64 = MAX_HARVEST as u64;
 
 // Whether start and harvested equal charge, used and lost. Those are taken off one by one, since their sum could wrap.
 fn balances(start: u32, harvested: u64, charge: u32, used: u64, lost: u64) -> bool
@@ -38,7 +39,7 @@ pub fn is_shift(s: Shift) -> bool
     if s.frames == 0 {
         return false;
     }
-    if s.frames > MAX_FRAMES {
+    if s.frames > FRAMES_LIMIT {
         return false;
     }
     if s.capacity > MAX_CAPACITY {
@@ -53,7 +54,7 @@ pub fn is_shift(s: Shift) -> bool
     if s.end > s.capacity {
         return false;
     }
-    if s.harvested > MAX_HARVEST * s.recorded as u64 {
+    if s.harvested > HARVEST_LIMIT * s.recorded as u64 {
         return false;
     }
     balances(s.start, s.harvested, s.charge, s.used, s.lost)
