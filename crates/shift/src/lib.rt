@@ -10,10 +10,10 @@ use model::Refusal;
 use pace::plan::plan_into;
 use request::refusals::is_none;
 
-pub mod clear;
-pub mod frame;
-pub mod refusals;
-pub mod state;
+mod clear;
+mod frame;
+mod refusals;
+mod state;
 
 // A shift's record: K, frames recorded, capacity, start, end, present charge, and the totals over the recorded frames.
 #[repr(C)]
