@@ -46,7 +46,7 @@ pub record Ending : Type 0 where
 abbrev pub notShort : Ending
 notShort = record { short = false; missing = 0 }
 
--- short: even with budgets 0 the rest ends below its end charge; missing is end charge less present charge less remaining harvest
+-- short: present charge and remaining harvest together are below the end charge; missing is what they lack
 abbrev pub endingOf : Request → Ending
 endingOf q = record { short = ltb (mostEnergy q) (q .end); missing = q .end - mostEnergy q }
 
