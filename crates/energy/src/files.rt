@@ -1,10 +1,10 @@
 // Reading and writing a word file, for C.
 ghost use Rattle.model.specs.Request.{request};
 ghost use Rattle.energy.specs.Files.{EnergyReadSays, EnergyWriteSays};
-use wordfile::reader::ReadAnswer;
-use wordfile::reader::read;
-use wordfile::writer::WriteAnswer;
-use wordfile::writer::write;
+use wordfile::ReadAnswer;
+use wordfile::WriteAnswer;
+use wordfile::read;
+use wordfile::write;
 
 // The answer of reading: number 0 with the figures and K, or the refusal.
 #[repr(C)]

@@ -1,6 +1,7 @@
 // The static library for C and Rust (include/energy.h): each entry of the product under its plain name, its answer flattened to numbers.
 pub mod files;
 pub mod grade;
+pub mod listings;
 pub mod needed;
 pub mod plan;
 pub mod shifts;
