@@ -2,13 +2,12 @@
 use mathlib.Core.Path.{_≡_, refl, sym, ap, subst, _∙_}
 use mathlib.Core.Bool.{true, false≢true}
 use mathlib.Core.List.{List}
-use mathlib.Core.Logic.{⊎-elim}
-use Prim.Native.Nat.{ℕ, _≤_, _<_}
+use Prim.Native.Nat.{ℕ, _≤_}
 use native.Mathlib.Decide.{decLe}
 use native.Mathlib.Omega.{arith}
 use lib.ListN.{length, take}
 use Rattle.model.specs.Limits.{maxFrames, maxFileBytes}
-use Rattle.model.specs.Request.{Request, frameCount}
+use Rattle.model.specs.Request.{Request}
 use Rattle.model.specs.Refusals.{none, isNone, gives}
 use Rattle.wordfile.specs.Words.{wordsOf}
 use Rattle.wordfile.specs.Form.{formOf}
@@ -16,7 +15,7 @@ use Rattle.wordfile.specs.File.{requestIn, readRefusal, fileBytes, writeRefusal
 use Rattle.wordfile.specs.Says.{headerOf, ReadSays, readSaid, WriteSays, writeSaid}
 use Rattle.wordfile.specs.declared.reader.Header.{Header}
 use Rattle.wordfile.specs.declared.reader.ReadAnswer.{ReadAnswer}
-use Rattle.wordfile.specs.declared.reader.ReadAnswer.the-variants.{Accepted, Refused}
+use Rattle.wordfile.specs.declared.reader.ReadAnswer.the-variants.{Accepted}
 use Rattle.wordfile.specs.declared.writer.WriteAnswer.{WriteAnswer}
 use Rattle.wordfile.proofs.Refused.{too-long}
 use Rattle.wordfile.proofs.Written.{file-length}

@@ -2,7 +2,7 @@
 use mathlib.Core.Path.{_≡_, refl, sym, ap, _∙_}
 use mathlib.Core.Bool.{Bool, true, false}
 use mathlib.Core.List.{List, []}
-use Prim.Native.Nat.{ℕ, _+_, _-_, _≤_}
+use Prim.Native.Nat.{ℕ, _-_}
 use native.Mathlib.Omega.{arith}
 use lib.ListN.{length, take, drop, length-drop}
 use lib.Seq.{take-all}
@@ -10,7 +10,7 @@ use borrow.Author.Tests.{eq-eqb, ne-eqb}
 use Rattle.model.specs.declared.Refusal.{Refusal}
 use Rattle.model.specs.Choice.{pick}
 use Rattle.model.specs.Request.{Request}
-use Rattle.model.specs.Refusals.{Outcome, gives, refuses, outcome, isNone, startRefusal}
+use Rattle.model.specs.Refusals.{gives, refuses, outcome, isNone, startRefusal}
 use Rattle.shift.specs.declared.Shift.{Shift}
 use Rattle.shift.specs.declared.StartAnswer.{StartAnswer}
 use Rattle.shift.specs.declared.RecordAnswer.{RecordAnswer}
@@ -20,7 +20,6 @@ use Rattle.shift.specs.Shift.{started, isShift, recordRefusal, recordedBy}
 use Rattle.shift.specs.Rest.{partRefusal}
 use Rattle.shift.specs.Says.{StartSays, startSaid, RecordSays, recordSaid, handedBack, RestSays, restSaid, PartSays}
 use Rattle.shift.proofs.Rest.{part-open, part-p}
-use Rattle.energy.specs.Flat.{valueOr}
 use Rattle.energy.specs.Shifts.{noShift, shiftFlat, EnergyStartSays, EnergyRecordSays, restFlat, EnergyRestSays, partFlat, partOf, EnergyPartSays}
 use Rattle.energy.specs.declared.shifts.EnergyShiftAnswer.{EnergyShiftAnswer}
 use Rattle.energy.specs.declared.shifts.EnergyPartAnswer.{EnergyPartAnswer}

@@ -6,7 +6,7 @@ use native.Mathlib.Omega.{arith}
 use lib.IntN.{ℤ}
 use lib.ListN.{length}
 use Rattle.model.specs.Request.{Request}
-use Rattle.model.specs.Refusals.{Outcome, gives, traceRefusal}
+use Rattle.model.specs.Refusals.{gives, traceRefusal}
 use Rattle.model.specs.Trace.{Verdict, verdict, EarliestBelow}
 use Rattle.tracer.specs.Says.{TraceSays, said}
 use Rattle.tracer.specs.declared.TraceAnswer.{TraceAnswer}

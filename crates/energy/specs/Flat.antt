@@ -1,6 +1,5 @@
 -- An outcome as numbers: the refusal's number and P, both 0 where a value is given, and the value, or another in its place.
 use Prim.Native.Nat.{ℕ}
-use Rattle.model.specs.declared.Refusal.{Refusal}
 use Rattle.model.specs.Refusals.{Outcome, gives, refuses}
 
 -- the number of the refusal; 0 for a value
