@@ -1,0 +1,2 @@
+-- Laws of the machine that reads figures.
+pub mod Machine

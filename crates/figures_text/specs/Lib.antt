@@ -1,0 +1,3 @@
+-- Figures as readable text: what a text says, and what is written of a word file.
+pub mod Text
+pub mod Says

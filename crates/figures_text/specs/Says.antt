@@ -1,0 +1,17 @@
+-- What reading figures from a text promises.
+use mathlib.Core.Path.{_≡_}
+use mathlib.Core.List.{List}
+use Prim.Native.Nat.{ℕ, _-_, min}
+use lib.Dec.{eqb}
+use lib.ListN.{length, take}
+use Rattle.model.specs.Choice.{pick}
+use Rattle.wordfile.specs.Lent.{over}
+use Rattle.figures_text.specs.Text.{figuresIn, wrongIn}
+use Rattle.figures_text.specs.declared.parse.ParseAnswer.{ParseAnswer}
+use Rattle.figures_text.specs.declared.parse.ParseAnswer.the-variants.{Figures, Wrong}
+
+-- reading the text s with the list o lent, o′ after it: as many figures as there is room for, or the place of the first byte that is
+-- none of figures
+pub record ParseSays (s o o′ : List ℕ) (r : ParseAnswer) : Type 0 where
+  pub answer : r ≡ pick (eqb (wrongIn s) 0) (Figures (min (length (figuresIn s)) (length o))) (Wrong (wrongIn s - 1))
+  pub figures : o′ ≡ over (take (length o) (figuresIn s)) o
