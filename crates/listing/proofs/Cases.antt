@@ -1,7 +1,6 @@
 -- Document 01's listing, computed from the definitions of its lines.
 use mathlib.Core.Path.{_≡_, refl}
-use mathlib.Core.List.{List, [], _∷_, _++_}
-use Prim.Native.Nat.{ℕ}
+use mathlib.Core.List.{[], _∷_, _++_}
 use Rattle.model.specs.Refusals.{refusal}
 use Rattle.listing.specs.Decimal.{places, decimal}
 use Rattle.listing.specs.Text.{firstLine, frameLines, worthLine, refusedLine}

@@ -5,3 +5,4 @@ pub mod listings;
 pub mod text;
 
 pub use listings::list;
+pub use listings::list_refusal;

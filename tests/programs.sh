@@ -1,0 +1,136 @@
+#!/usr/bin/env bash
+# The built programs plan, words and figures on accepted, refused, truncated, oversized and endless inputs.
+# The last line is 'N passed, M failed'.
+set -u
+cd "$(dirname "$0")/.." || exit 2
+bin=target/bin
+passed=0
+failed=0
+folder=$(mktemp -d)
+trap 'rm -rf "$folder"' EXIT
+
+if [ ! -x $bin/plan ] || [ ! -x $bin/words ] || [ ! -x $bin/figures ]; then
+    rt check plan words figures >"$folder/build" 2>&1 || { cat "$folder/build"; echo '0 passed, 1 failed'; exit 1; }
+fi
+
+# check NAME EXPECTED ACTUAL
+check() {
+    if [ "$2" = "$3" ]; then
+        passed=$((passed + 1))
+    else
+        failed=$((failed + 1))
+        printf 'FAILED %s\n  expected: %q\n  found:    %q\n' "$1" "$2" "$3"
+    fi
+}
+
+# words as bytes, the lowest byte first: word 9 0x40000001 ..
+word() {
+    local w
+    for w in "$@"; do
+        printf "$(printf '\\x%02x\\x%02x\\x%02x\\x%02x' $((w & 255)) $((w >> 8 & 255)) $((w >> 16 & 255)) $((w >> 24 & 255)))"
+    done
+}
+
+# harvest words, so many of them, of one value
+harvests() {
+    local i
+    for ((i = 0; i < $1; i++)); do word $((0x40000000 + $2)); done
+}
+
+plan() { $bin/plan; }
+figures() { $bin/figures; }
+# what words writes to standard output, as hexadecimal, and to standard error
+words_out() { $bin/words 2>/dev/null | od -An -v -tx1 | tr -d ' \n'; }
+words_err() { $bin/words 2>&1 >/dev/null; }
+
+# the listing of document 01, made from text
+listing='frames 6 capacity 5 needed 6
+1 4 4
+2 3 5
+3 3 2
+4 2 0
+5 4 1
+6 4 2
+worth 320 480 100'
+check 'listing from text' "$listing" "$($bin/words <examples/listing.txt | plan)"
+check 'listing, capacity 6' 'frames 6 capacity 6 needed 6
+1 3 5
+2 3 6
+3 3 3
+4 3 0
+5 4 1
+6 4 2
+worth 320 480 100' "$(echo 6 2 2 6 4 0 0 5 5 | $bin/words | plan)"
+check 'harvest 1, 2' 'frames 2 capacity 9 needed 0
+1 1 0
+2 2 0
+worth 48 72 15' "$(echo 9 0 0 1 2 | $bin/words | plan)"
+check 'words of harvest 1, 2' '0900000000000000000000000100004002000040020000c0' "$(echo 9 0 0 1 2 | words_out)"
+check 'capacity 0' 'frames 1 capacity 0 needed 0
+1 5 0
+worth 80 120 25' "$(echo 0 0 0 5 | $bin/words | plan)"
+
+# files that the plan program refuses
+check 'no byte' 'refused 8 0' "$(printf '' | plan)"
+check 'one byte' 'refused 8 0' "$(printf '\0' | plan)"
+check 'two bytes' 'refused 8 0' "$(printf '\0\0' | plan)"
+check 'three bytes' 'refused 8 0' "$(printf '\0\0\0' | plan)"
+check 'a first word of kind 1' 'refused 8 0' "$(word 0x40000001 | plan)"
+check 'three figures and nothing' 'refused 8 3' "$(word 0 0 0 | plan)"
+check 'three figures, no frames' 'refused 1 0' "$(word 0 0 0 0xC0000000 | plan)"
+check 'a fourth figure' 'refused 8 3' "$(word 9 0 0 9 | plan)"
+check 'a word of kind 2' 'refused 8 3' "$(word 9 0 0 0x80000001 0xC0000001 | plan)"
+check 'a wrong count' 'refused 8 5' "$(word 9 0 0 0x40000001 0x40000002 0xC0000003 | plan)"
+check 'no end word' 'refused 8 5' "$(word 9 0 0 0x40000001 0x40000002 | plan)"
+check 'a truncated end word' 'refused 8 5' "$(word 9 0 0 0x40000001 0x40000002 0xC0000002 | head -c 23 | plan)"
+check 'a byte after the end word' 'refused 8 6' "$( (word 9 0 0 0x40000001 0x40000002 0xC0000002; printf 'x') | plan)"
+check 'a word after the end word' 'refused 8 6' "$(word 9 0 0 0x40000001 0x40000002 0xC0000002 0 | plan)"
+check 'a file after a file' 'refused 8 5' "$(word 9 0 0 0x40000001 0xC0000001 9 0 0 0x40000001 0xC0000001 | plan)"
+check 'the largest figure' 'refused 3 0' "$(word 0x3FFFFFFF 0 0 0x40000001 0xC0000001 | plan)"
+check 'the largest harvest value' 'refused 6 2' "$(word 9 0 0 0x40000001 0x7FFFFFFF 0xC0000002 | plan)"
+check 'harvest 400,001' 'refused 6 1' "$(word 9 0 0 $((0x40000000 + 400001)) 0xC0000001 | plan)"
+check 'start above capacity' 'refused 4 0' "$(word 9 10 0 0x40000001 0xC0000001 | plan)"
+check 'end above capacity' 'refused 5 0' "$(word 9 0 10 0x40000001 0xC0000001 | plan)"
+check 'out of reach' 'refused 9 1' "$(word 8 3 8 0x40000004 0xC0000001 | plan)"
+
+# the limits of the file's size
+(word 9 0 0; harvests 2976 1; word $((0xC0000000 + 2976))) >"$folder/full"
+check 'size of a full file' 11920 "$(wc -c <"$folder/full")"
+check '2,976 frames' 'frames 2976 capacity 9 needed 0' "$(plan <"$folder/full" | head -n 1)"
+check '2,976 frames: lines' 2978 "$(plan <"$folder/full" | wc -l)"
+check '11,921 bytes' 'refused 2 0' "$( (cat "$folder/full"; printf 'x') | plan)"
+check '11,920 bytes of no file' 'refused 8 0' "$(head -c 11920 /dev/zero | tr '\0' '\377' | plan)"
+check '11,921 bytes of no file' 'refused 2 0' "$(head -c 11921 /dev/zero | tr '\0' '\377' | plan)"
+check 'an endless input' 'refused 2 0' "$(timeout 20 $bin/plan </dev/zero)"
+check 'an input in small pieces' "$listing" "$($bin/words <examples/listing.txt | while IFS= read -r -d '' -n 1 b || [ -n "$b" ]; do if [ -n "$b" ]; then printf '%s' "$b"; else printf '\0'; fi; done | plan)"
+
+# text to words, and what is no figures
+check 'comments, tabs and carriage returns' '0900000000000000000000000100004002000040020000c0' "$(printf '#a 7\n9\t0#x\r\n0 \r\n1\n#end 5\n2' | words_out)"
+check 'a letter' 'refused 30 4' "$(printf '9 0 x 1' | words_err)"
+check 'a letter: no file' '' "$(printf '9 0 x 1' | words_out)"
+check 'a letter in a figure' 'refused 30 1' "$(printf '9a 0 0 1' | words_err)"
+check 'a minus sign' 'refused 30 2' "$(printf '9 -1 0 1' | words_err)"
+check 'a figure above 32 bits' 'refused 30 9' "$(printf '4294967296 0 0 1' | words_err)"
+check 'the largest figure of 32 bits' 'refused 3 0' "$(printf '4294967295 0 0 1' | words_err)"
+check 'an empty text' 'refused 30 0' "$(printf '' | words_err)"
+check 'two figures' 'refused 30 4' "$(printf '9 0\n' | words_err)"
+check 'three figures' 'refused 1 0' "$(printf '9 0 0\n' | words_err)"
+check 'harvest 400,001 as text' 'refused 6 2' "$(printf '9 0 0 400000 400001' | words_err)"
+check '2,976 harvests as text' "$(od -An -v -tx1 "$folder/full" | tr -d ' \n')" "$( (echo 9 0 0; yes 1 | head -n 2976) | words_out)"
+check '2,977 harvests as text' 'refused 2 0' "$( (echo 9 0 0; yes 1 | head -n 2977) | words_err)"
+check '9,000 harvests as text' 'refused 2 0' "$( (echo 9 0 0; yes 1 | head -n 9000) | words_err)"
+check 'an endless text' 'refused 30 131072' "$(yes 1 | timeout 20 $bin/words 2>&1 >/dev/null)"
+check 'an endless text: no file' '' "$(yes 1 | timeout 20 $bin/words 2>/dev/null)"
+
+# words to text
+check 'figures of harvest 1, 2' '9 0 0
+1
+2' "$(word 9 0 0 0x40000001 0x40000002 0xC0000002 | figures)"
+check 'figures of the largest values' '1073741823 0 1073741823
+1073741823' "$(word 0x3FFFFFFF 0 0x3FFFFFFF 0x7FFFFFFF 0xC0000001 | figures)"
+check 'figures of a broken file' 'refused 8 5' "$(word 9 0 0 0x40000001 0x40000002 0xC0000003 | figures)"
+check 'figures of a long file' 'refused 2 0' "$(timeout 20 $bin/figures </dev/zero)"
+check 'figures and back' "$(od -An -v -tx1 "$folder/full" | tr -d ' \n')" "$(figures <"$folder/full" | words_out)"
+
+printf '%d passed, %d failed\n' "$passed" "$failed"
+[ "$failed" -eq 0 ]
