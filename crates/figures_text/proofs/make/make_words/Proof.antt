@@ -22,7 +22,16 @@ returns c =
     let g = c .before .before in
     let p = g .before .before .before .before in
     let a = p .before .before .before .before .before in
-    law.few-made (a .args .text .now) (a .args .figures .now) (p .parse .last .1 .0) (p .parse .result) (p .parse .ensures) (a .args .out .now) (g .answer2 .given .0 .0) (g .answer2 .given .1) (c .if1 .taken)
+    law.few-made
+    (a .args .text .now)
+    (a .args .figures .now)
+    (p .parse .last .1 .0)
+    (p .parse .result)
+    (p .parse .ensures)
+    (a .args .out .now)
+    (g .answer2 .given .0 .0)
+    (g .answer2 .given .1)
+    (c .if1 .taken)
 
 slice-read-capacity : tie.Need-slice-read-capacity
 slice-read-capacity c =
@@ -66,7 +75,15 @@ returns-2 c =
     let g = c .before in
     let p = g .before .before .before .before in
     let a = p .before .before .before .before .before in
-    law.wrong-made (a .args .text .now) (a .args .figures .now) (p .parse .last .1 .0) (p .parse .result) (p .parse .ensures) (a .args .out .now) (g .answer .given .0 .0) (g .answer .given .1)
+    law.wrong-made
+    (a .args .text .now)
+    (a .args .figures .now)
+    (p .parse .last .1 .0)
+    (p .parse .result)
+    (p .parse .ensures)
+    (a .args .out .now)
+    (g .answer .given .0 .0)
+    (g .answer .given .1)
 
 same-length-3 : tie.Need-same-length-3
 same-length-3 c = search needs
@@ -81,7 +98,19 @@ returns-3 c =
     let g = i .before .before in
     let p = g .before .before .before .before in
     let a = p .before .before .before .before .before in
-    law.figures-made (a .args .text .now) (a .args .figures .now) (p .parse .last .1 .0) (p .parse .result) (p .parse .ensures) (a .args .out .now) (w .write .last .1 .1 .1 .1 .0) (g .answer2 .given .0 .0) (w .write .result) (g .answer2 .given .1) (i .if1 .left) (w .write .ensures)
+    law.figures-made
+    (a .args .text .now)
+    (a .args .figures .now)
+    (p .parse .last .1 .0)
+    (p .parse .result)
+    (p .parse .ensures)
+    (a .args .out .now)
+    (w .write .last .1 .1 .1 .1 .0)
+    (g .answer2 .given .0 .0)
+    (w .write .result)
+    (g .answer2 .given .1)
+    (i .if1 .left)
+    (w .write .ensures)
 
 pub make-words-spec : {M : Type 1} → statement M
 make-words-spec =

@@ -36,7 +36,24 @@ returns c =
     let b = c .before .before .before in
     let l = b .before .before .before .before in
     let a = l .before .before .before in
-    law.reads-wrong (a .args .text .now) (a .args .figures .now) (l .loop .figures) (b .take-byte .last .1 .1 .1 .0) (l .loop .place) (l .loop .value) (l .loop .count) (b .take-byte .result .count) (l .loop .i) (b .take-byte .result .place) (b .take-byte .result .value) (c .before .before .before .before .before .before .loop-test .taken) (l .loop .inv .2) (b .take-byte .ensures .0) (b .take-byte .ensures .1) (b .take-byte .ensures .2) (c .if1 .taken)
+    law.reads-wrong
+    (a .args .text .now)
+    (a .args .figures .now)
+    (l .loop .figures)
+    (b .take-byte .last .1 .1 .1 .0)
+    (l .loop .place)
+    (l .loop .value)
+    (l .loop .count)
+    (b .take-byte .result .count)
+    (l .loop .i)
+    (b .take-byte .result .place)
+    (b .take-byte .result .value)
+    (c .before .before .before .before .before .before .loop-test .taken)
+    (l .loop .inv .2)
+    (b .take-byte .ensures .0)
+    (b .take-byte .ensures .1)
+    (b .take-byte .ensures .2)
+    (c .if1 .taken)
 
 add-i : tie.Need-add-i Inv-loop μ-loop
 add-i c = search needs
@@ -64,7 +81,20 @@ returns-2 c =
     let l = e .before .before in
     let a = l .before .before .before in
     let r = l .loop .inv .2 in
-    law.ends-in-figure (a .args .text .now) (a .args .figures .now) (l .loop .figures) (l .loop .place) (l .loop .value) (l .loop .count) (l .loop .i) (e .before .loop-test .left) r (e .if2 .taken) (p .put-figure .last .1 .0) (p .put-figure .result) (p .put-figure .ensures (r .sofar) (a .args .figures .now) (r .list))
+    law.ends-in-figure
+    (a .args .text .now)
+    (a .args .figures .now)
+    (l .loop .figures)
+    (l .loop .place)
+    (l .loop .value)
+    (l .loop .count)
+    (l .loop .i)
+    (e .before .loop-test .left)
+    r
+    (e .if2 .taken)
+    (p .put-figure .last .1 .0)
+    (p .put-figure .result)
+    (p .put-figure .ensures (r .sofar) (a .args .figures .now) (r .list))
 
 same-length-3 : tie.Need-same-length-3 Inv-loop μ-loop
 same-length-3 c = search needs
@@ -73,7 +103,17 @@ returns-3 : tie.Need-returns-3 Inv-loop μ-loop
 returns-3 c =
     let l = c .before .before in
     let a = l .before .before .before in
-    law.ends-between (a .args .text .now) (a .args .figures .now) (l .loop .figures) (l .loop .place) (l .loop .value) (l .loop .count) (l .loop .i) (c .before .loop-test .left) (l .loop .inv .2) (c .if2 .left)
+    law.ends-between
+    (a .args .text .now)
+    (a .args .figures .now)
+    (l .loop .figures)
+    (l .loop .place)
+    (l .loop .value)
+    (l .loop .count)
+    (l .loop .i)
+    (c .before .loop-test .left)
+    (l .loop .inv .2)
+    (c .if2 .left)
 
 pub parse-spec : {M : Type 1} → statement M
 parse-spec =

@@ -8,12 +8,28 @@ use Rattle.figures_text.proofs.parse.take_byte.Tie as tie
 returns : tie.Need-returns
 returns c =
     let a = c .before .before .before .args in
-    law.took-none (a .place) (a .value) (a .byte) 0 0 (a .figures .now) (a .count) (law.comment-ends (a .place) (a .value) (a .byte) (c .before .if1 .taken) (c .if2 .taken))
+    law.took-none
+    (a .place)
+    (a .value)
+    (a .byte)
+    0
+    0
+    (a .figures .now)
+    (a .count)
+    (law.comment-ends (a .place) (a .value) (a .byte) (c .before .if1 .taken) (c .if2 .taken))
 
 returns-2 : tie.Need-returns-2
 returns-2 c =
     let a = c .before .before .before .args in
-    law.took-none (a .place) (a .value) (a .byte) 2 0 (a .figures .now) (a .count) (law.comment-on (a .place) (a .value) (a .byte) (c .before .if1 .taken) (c .if2 .left))
+    law.took-none
+    (a .place)
+    (a .value)
+    (a .byte)
+    2
+    0
+    (a .figures .now)
+    (a .count)
+    (law.comment-on (a .place) (a .value) (a .byte) (c .before .if1 .taken) (c .if2 .left))
 
 is-digit-requires : tie.Need-is-digit-requires
 is-digit-requires c κs = search needs
@@ -26,7 +42,15 @@ returns-3 c =
     let d = c .before .before .before in
     let a = d .before .before .before .args in
     let g = c .before .grow in
-    law.took-none (a .place) (a .value) (a .byte) 3 0 (a .figures .now) (a .count) (law.digit-over (a .place) (a .value) (a .byte) (d .before .if1 .left) (sym (d .is-digit .ensures) ∙ c .before .before .if3 .taken) (g .result) (g .ensures) (c .if4 .taken))
+    law.took-none
+    (a .place)
+    (a .value)
+    (a .byte)
+    3
+    0
+    (a .figures .now)
+    (a .count)
+    (law.digit-over (a .place) (a .value) (a .byte) (d .before .if1 .left) (sym (d .is-digit .ensures) ∙ c .before .before .if3 .taken) (g .result) (g .ensures) (c .if4 .taken))
 
 cast-t13 : tie.Need-cast-t13
 cast-t13 c = search needs
@@ -36,7 +60,15 @@ returns-4 c =
     let d = c .before .before .before in
     let a = d .before .before .before .args in
     let g = c .before .grow in
-    law.took-none (a .place) (a .value) (a .byte) 1 (g .result) (a .figures .now) (a .count) (law.digit-fits (a .place) (a .value) (a .byte) (d .before .if1 .left) (sym (d .is-digit .ensures) ∙ c .before .before .if3 .taken) (g .result) (g .ensures) (c .if4 .left))
+    law.took-none
+    (a .place)
+    (a .value)
+    (a .byte)
+    1
+    (g .result)
+    (a .figures .now)
+    (a .count)
+    (law.digit-fits (a .place) (a .value) (a .byte) (d .before .if1 .left) (sym (d .is-digit .ensures) ∙ c .before .before .if3 .taken) (g .result) (g .ensures) (c .if4 .left))
 
 separate-requires : tie.Need-separate-requires
 separate-requires c κs = search needs
@@ -63,7 +95,15 @@ returns-6 c =
     let d = s .before .before in
     let a = d .before .before .before .args in
     let n = s .separate .result in
-    law.took-none (a .place) (a .value) (a .byte) n 0 (a .figures .now) (a .count) (law.nothing-ends (a .place) (a .value) (a .byte) n (d .before .if1 .left) (sym (d .is-digit .ensures) ∙ s .before .if3 .left) (s .separate .ensures) (c .if5 .left))
+    law.took-none
+    (a .place)
+    (a .value)
+    (a .byte)
+    n
+    0
+    (a .figures .now)
+    (a .count)
+    (law.nothing-ends (a .place) (a .value) (a .byte) n (d .before .if1 .left) (sym (d .is-digit .ensures) ∙ s .before .if3 .left) (s .separate .ensures) (c .if5 .left))
 
 pub take-byte-spec : {M : Type 1} → statement M
 take-byte-spec =

@@ -64,7 +64,16 @@ returns c =
     let o = a .args .out .now in
     let b = c .before .before in
     let f = b .before .before .before .before .before .before in
-    law.accepted-text (a .args .file .now) (a .args .harvest .now) (d .read .last .1 .0) o _ _ (g .answer .given .0 .0) k (b .put-harvests .ensures _ o (f .put-frame .ensures [] o (wrote-none o)))
+    law.accepted-text
+    (a .args .file .now)
+    (a .args .harvest .now)
+    (d .read .last .1 .0)
+    o
+    _
+    _
+    (g .answer .given .0 .0)
+    k
+    (b .put-harvests .ensures _ o (f .put-frame .ensures [] o (wrote-none o)))
 
 same-length-3 : tie.Need-same-length-3
 same-length-3 c = search needs
@@ -79,7 +88,19 @@ returns-2 c =
     let d = g .before .before .before .before in
     let a = d .before .before .before .before .before in
     let o = a .args .out .now in
-    law.unread-text (a .args .file .now) (a .args .harvest .now) (d .read .last .1 .0) o _ _ (d .read .result) (g .answer2 .given .0 .0) (a .pre) (d .read .ensures) (g .answer2 .given .1) (b .put-refused .ensures [] o (wrote-none o))
+    law.unread-text
+    (a .args .file .now)
+    (a .args .harvest .now)
+    (d .read .last .1 .0)
+    o
+    _
+    _
+    (d .read .result)
+    (g .answer2 .given .0 .0)
+    (a .pre)
+    (d .read .ensures)
+    (g .answer2 .given .1)
+    (b .put-refused .ensures [] o (wrote-none o))
 
 pub show-file-spec : {M : Type 1} → statement M
 show-file-spec =

@@ -75,7 +75,17 @@ returns : tie.Need-returns Inv-loop μ-loop
 returns c =
     let l = c .before in
     let a = l .before .before .before in
-    λ t o w. law.wrote-frames t o (l .loop .out) (a .args .budgets .now) (a .args .charges .now) (l .loop .i) (l .loop .next) (c .loop-test .left) (a .pre .1 .0) (l .loop .inv .2 t o w)
+    λ t o w. law.wrote-frames
+    t
+    o
+    (l .loop .out)
+    (a .args .budgets .now)
+    (a .args .charges .now)
+    (l .loop .i)
+    (l .loop .next)
+    (c .loop-test .left)
+    (a .pre .1 .0)
+    (l .loop .inv .2 t o w)
 
 pub put-frames-spec : {M : Type 1} → statement M
 put-frames-spec =

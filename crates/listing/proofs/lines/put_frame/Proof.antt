@@ -34,7 +34,14 @@ returns c =
     let x2 = x3 .before .before .before .before .before in
     let x1 = x2 .before .before .before .before .before in
     let a = x1 .before .before .before .args in
-    λ t o w. law.wrote-same _ _ o (e .put-byte .last .1 .0) (e .put-byte .result) (law.join-frame t (decimal (a .frame)) space (decimal (a .budget)) space (decimal (a .charge)) lineEnd) (e .put-byte .ensures _ o (x3 .put-labelled2 .ensures _ o (x2 .put-labelled .ensures _ o (x1 .put-number .ensures t o w))))
+    λ t o w. law.wrote-same
+    _
+    _
+    o
+    (e .put-byte .last .1 .0)
+    (e .put-byte .result)
+    (law.join-frame t (decimal (a .frame)) space (decimal (a .budget)) space (decimal (a .charge)) lineEnd)
+    (e .put-byte .ensures _ o (x3 .put-labelled2 .ensures _ o (x2 .put-labelled .ensures _ o (x1 .put-number .ensures t o w))))
 
 pub put-frame-spec : {M : Type 1} → statement M
 put-frame-spec =

@@ -33,7 +33,14 @@ returns c =
     let x2 = e .before .before .before .before in
     let x1 = x2 .before .before .before .before .before in
     let a = x1 .before .before .before .before .args in
-    λ t o w. law.wrote-same _ _ o (e .put-byte .last .1 .0) (e .put-byte .result) (law.join-line t refusedLabel (decimal (a .refusal .number)) space (decimal (a .refusal .p)) lineEnd) (e .put-byte .ensures _ o (x2 .put-labelled2 .ensures _ o (x1 .put-labelled .ensures t o w)))
+    λ t o w. law.wrote-same
+    _
+    _
+    o
+    (e .put-byte .last .1 .0)
+    (e .put-byte .result)
+    (law.join-line t refusedLabel (decimal (a .refusal .number)) space (decimal (a .refusal .p)) lineEnd)
+    (e .put-byte .ensures _ o (x2 .put-labelled2 .ensures _ o (x1 .put-labelled .ensures t o w)))
 
 pub put-refused-spec : {M : Type 1} → statement M
 put-refused-spec =

@@ -37,7 +37,14 @@ returns c =
     let x2 = x3 .before .before .before .before .before in
     let x1 = x2 .before .before .before .before .before in
     let a = x1 .before .before .before .before .args in
-    λ t o w. law.wrote-same _ _ o (e .put-byte .last .1 .0) (e .put-byte .result) (law.join-long t worthLabel (decimal (a .curve0)) space (decimal (a .curve1)) space (decimal (a .curve2)) lineEnd) (e .put-byte .ensures _ o (x3 .put-labelled3 .ensures _ o (x2 .put-labelled2 .ensures _ o (x1 .put-labelled .ensures t o w))))
+    λ t o w. law.wrote-same
+    _
+    _
+    o
+    (e .put-byte .last .1 .0)
+    (e .put-byte .result)
+    (law.join-long t worthLabel (decimal (a .curve0)) space (decimal (a .curve1)) space (decimal (a .curve2)) lineEnd)
+    (e .put-byte .ensures _ o (x3 .put-labelled3 .ensures _ o (x2 .put-labelled2 .ensures _ o (x1 .put-labelled .ensures t o w))))
 
 pub put-worth-spec : {M : Type 1} → statement M
 put-worth-spec =

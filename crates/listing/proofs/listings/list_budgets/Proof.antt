@@ -50,7 +50,14 @@ returns c =
     let o = a .args .out .now in
     let bs = a .args .budgets .now in
     let e = law.needed-is (asked a) (a .pre .0) (n .needed .result) (l .least .given .0 .0) (n .needed .ensures) (l .least .given .1) in
-    wrote-same _ _ o _ _ (ap (λ (m : ℕ). firstLine k (a .args .capacity) m ++ framesText (asked a) bs) e) (p .put-budgets .ensures _ o (f .put-first .ensures [] o (wrote-none o)))
+    wrote-same
+    _
+    _
+    o
+    _
+    _
+    (ap (λ (m : ℕ). firstLine k (a .args .capacity) m ++ framesText (asked a) bs) e)
+    (p .put-budgets .ensures _ o (f .put-first .ensures [] o (wrote-none o)))
 
 same-length-3 : tie.Need-same-length-3
 same-length-3 c = search needs

@@ -91,7 +91,16 @@ returns c =
     let d = g .before .before .before .before in
     let a = d .before .before .before .before .before .before in
     let k = law.is-read (a .args .file .now) (a .args .harvest .now) (d .read .last .1 .0) (d .read .result) (g .answer .given .0 .0) (a .pre .0) (omega arith) (d .read .ensures) (g .answer .given .1) in
-    law.accepted-text (a .args .file .now) (a .args .harvest .now) (d .read .last .1 .0) (a .args .out .now) _ _ (g .answer .given .0 .0) k (b .list-request .ensures)
+    law.accepted-text
+    (a .args .file .now)
+    (a .args .harvest .now)
+    (d .read .last .1 .0)
+    (a .args .out .now)
+    _
+    _
+    (g .answer .given .0 .0)
+    k
+    (b .list-request .ensures)
 
 same-length-5 : tie.Need-same-length-5
 same-length-5 c = search needs
@@ -106,7 +115,19 @@ returns-2 c =
     let d = g .before .before .before .before in
     let a = d .before .before .before .before .before .before in
     let o = a .args .out .now in
-    law.unread-text (a .args .file .now) (a .args .harvest .now) (d .read .last .1 .0) o _ _ (d .read .result) (g .answer2 .given .0 .0) (a .pre .0) (d .read .ensures) (g .answer2 .given .1) (b .put-refused .ensures [] o (wrote-none o))
+    law.unread-text
+    (a .args .file .now)
+    (a .args .harvest .now)
+    (d .read .last .1 .0)
+    o
+    _
+    _
+    (d .read .result)
+    (g .answer2 .given .0 .0)
+    (a .pre .0)
+    (d .read .ensures)
+    (g .answer2 .given .1)
+    (b .put-refused .ensures [] o (wrote-none o))
 
 pub list-file-spec : {M : Type 1} → statement M
 list-file-spec =

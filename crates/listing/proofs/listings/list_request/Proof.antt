@@ -48,7 +48,18 @@ returns c =
     let g = b .before .before .before .before in
     let p = g .before .before .before .before in
     let a = p .before .before .before .before .before in
-    law.planned-text (asked a) (a .args .budgets .now) (p .plan .last .1 .1 .1 .1 .0) (a .args .out .now) _ _ (p .plan .result) (a .pre .0) (p .plan .ensures) (g .enum-told .given .1) (b .list-budgets .ensures)
+    law.planned-text
+    (asked a)
+    (a .args .budgets .now)
+    (p .plan .last .1 .1 .1 .1 .0)
+    (a .args .out .now)
+    _
+    _
+    (p .plan .result)
+    (a .pre .0)
+    (p .plan .ensures)
+    (g .enum-told .given .1)
+    (b .list-budgets .ensures)
 
 same-length-4 : tie.Need-same-length-4
 same-length-4 c = search needs
@@ -63,7 +74,19 @@ returns-2 c =
     let p = g .before .before .before .before in
     let a = p .before .before .before .before .before in
     let o = a .args .out .now in
-    law.refused-text (asked a) (a .args .budgets .now) (p .plan .last .1 .1 .1 .1 .0) o _ _ (p .plan .result) (g .planned .given .0 .0) (a .pre .0) (p .plan .ensures) (g .planned .given .1) (b .put-refused .ensures [] o (wrote-none o))
+    law.refused-text
+    (asked a)
+    (a .args .budgets .now)
+    (p .plan .last .1 .1 .1 .1 .0)
+    o
+    _
+    _
+    (p .plan .result)
+    (g .planned .given .0 .0)
+    (a .pre .0)
+    (p .plan .ensures)
+    (g .planned .given .1)
+    (b .put-refused .ensures [] o (wrote-none o))
 
 pub list-request-spec : {M : Type 1} → statement M
 list-request-spec =

@@ -19,7 +19,14 @@ returns c =
     let p = c .before .before in
     let q = p .before .before .before .before in
     let a = q .before .before .before .before .args in
-    λ t o w. law.wrote-same _ _ o (p .put-number .last .1 .0) (p .put-number .result) (law.join-two t (a .label .now) (decimal (a .n))) (p .put-number .ensures _ o (q .put-text .ensures t o w))
+    λ t o w. law.wrote-same
+    _
+    _
+    o
+    (p .put-number .last .1 .0)
+    (p .put-number .result)
+    (law.join-two t (a .label .now) (decimal (a .n)))
+    (p .put-number .ensures _ o (q .put-text .ensures t o w))
 
 pub put-labelled-spec : {M : Type 1} → statement M
 put-labelled-spec = tie.close (tie.spec put-text-requires put-number-requires same-length returns)

@@ -35,7 +35,14 @@ returns c =
     let a = d .before .before .before in
     let k = d .decimal .result in
     let xs = d .decimal .last .1 .0 in
-    λ t o w. law.wrote-same (t ++ take (k - 0) xs) (t ++ decimal (a .args .n)) o (p .put-text .last .1 .0) (p .put-text .result) (ap (λ (x : List ℕ). t ++ x) (number.digits-part (a .args .n) k xs (d .decimal .ensures .1 .0) (d .decimal .ensures .1 .1))) (p .put-text .ensures t o w)
+    λ t o w. law.wrote-same
+    (t ++ take (k - 0) xs)
+    (t ++ decimal (a .args .n))
+    o
+    (p .put-text .last .1 .0)
+    (p .put-text .result)
+    (ap (λ (x : List ℕ). t ++ x) (number.digits-part (a .args .n) k xs (d .decimal .ensures .1 .0) (d .decimal .ensures .1 .1)))
+    (p .put-text .ensures t o w)
 
 pub put-number-spec : {M : Type 1} → statement M
 put-number-spec =

@@ -36,14 +36,34 @@ returns-4 c =
     let e = c .before .before .before .before in
     let s = e .before .before .args in
     let k = e .before .kind in
-    law.is-end (s .figures) (s .harvests) (s .word) (k .result) (k .ensures) (e .if1 .left) (c .before .before .if4 .taken) (c .before .value .result) (c .before .value .ensures) (c .if5 .taken)
+    law.is-end
+    (s .figures)
+    (s .harvests)
+    (s .word)
+    (k .result)
+    (k .ensures)
+    (e .if1 .left)
+    (c .before .before .if4 .taken)
+    (c .before .value .result)
+    (c .before .value .ensures)
+    (c .if5 .taken)
 
 returns-5 : tie.Need-returns-5
 returns-5 c =
     let e = c .before .before .before .before in
     let s = e .before .before .args in
     let k = e .before .kind in
-    law.no-end (s .figures) (s .harvests) (s .word) (k .result) (k .ensures) (e .if1 .left) (c .before .before .if4 .taken) (c .before .value .result) (c .before .value .ensures) (c .if5 .left)
+    law.no-end
+    (s .figures)
+    (s .harvests)
+    (s .word)
+    (k .result)
+    (k .ensures)
+    (e .if1 .left)
+    (c .before .before .if4 .taken)
+    (c .before .value .result)
+    (c .before .value .ensures)
+    (c .if5 .left)
 
 returns-6 : tie.Need-returns-6
 returns-6 c =

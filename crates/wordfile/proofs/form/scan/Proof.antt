@@ -32,7 +32,19 @@ turn :
 turn c r e =
     let p = c .before .before .before in
     let s = p .before .before .args .file .now in
-    law.step s (length s / 4) (p .loop .figures) (p .loop .harvests) (p .loop .i) (formOf (wordsOf s)) (c .before .before .loop-test .taken) (p .loop .inv .3) r (c .before .word-at .result) (c .before .word-at .ensures) (sym e ∙ c .role-of .ensures)
+    law.step
+    s
+    (length s / 4)
+    (p .loop .figures)
+    (p .loop .harvests)
+    (p .loop .i)
+    (formOf (wordsOf s))
+    (c .before .before .loop-test .taken)
+    (p .loop .inv .3)
+    r
+    (c .before .word-at .result)
+    (c .before .word-at .ensures)
+    (sym e ∙ c .role-of .ensures)
 
 loop-holds : tie.Need-loop-holds Inv-loop μ-loop
 loop-holds c = (refl, omega arith, omega arith, refl)

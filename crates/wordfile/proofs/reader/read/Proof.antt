@@ -46,7 +46,12 @@ returns-3 c =
     let s = a .args .file .now in
     let h = a .args .harvest .now in
     let p = c .before .form2 .given .0 .0 in
-    law.read-refused s h (refusal 8 p) (ap (λ (x : Form). formRefusal x (length s) (length h)) (sym (f .scan .ensures) ∙ c .before .form2 .given .1) ∙ law.broken p (length s) (length h) (f .before .if1 .left)) refl
+    law.read-refused
+    s
+    h
+    (refusal 8 p)
+    (ap (λ (x : Form). formRefusal x (length s) (length h)) (sym (f .scan .ensures) ∙ c .before .form2 .given .1) ∙ law.broken p (length s) (length h) (f .before .if1 .left))
+    refl
 
 pub read-spec : {M : Type 1} → statement M
 read-spec =

@@ -19,7 +19,15 @@ returns c =
     let a = c .before .before .before in
     let s = a .args .file .now in
     let h = a .args .harvest .now in
-    law.closed-refused s h (a .args .words) (a .pre .0) (a .pre .1) (refusal 8 (a .args .words)) (law.goes-on (a .args .words) (length s) (length h) (a .pre .1) (c .if1 .taken)) refl
+    law.closed-refused
+    s
+    h
+    (a .args .words)
+    (a .pre .0)
+    (a .pre .1)
+    (refusal 8 (a .args .words))
+    (law.goes-on (a .args .words) (length s) (length h) (a .pre .1) (c .if1 .taken))
+    refl
 
 sub-frames : tie.Need-sub-frames
 sub-frames c =
@@ -32,7 +40,15 @@ returns-2 c =
     let a = e .before .before .before in
     let s = a .args .file .now in
     let h = a .args .harvest .now in
-    law.closed-refused s h (a .args .words) (a .pre .0) (a .pre .1) (refusal 2 0) (law.too-many (a .args .words) (length s) (length h) (a .pre .1) (e .if1 .left) (c .if2 .taken)) refl
+    law.closed-refused
+    s
+    h
+    (a .args .words)
+    (a .pre .0)
+    (a .pre .1)
+    (refusal 2 0)
+    (law.too-many (a .args .words) (length s) (length h) (a .pre .1) (e .if1 .left) (c .if2 .taken))
+    refl
 
 returns-3 : tie.Need-returns-3
 returns-3 c =
@@ -40,7 +56,15 @@ returns-3 c =
     let a = e .before .before .before in
     let s = a .args .file .now in
     let h = a .args .harvest .now in
-    law.closed-refused s h (a .args .words) (a .pre .0) (a .pre .1) (refusal 7 0) (law.no-room (a .args .words) (length s) (length h) (a .pre .1) (e .if1 .left) (c .before .if2 .left) (c .if3 .taken)) refl
+    law.closed-refused
+    s
+    h
+    (a .args .words)
+    (a .pre .0)
+    (a .pre .1)
+    (refusal 7 0)
+    (law.no-room (a .args .words) (length s) (length h) (a .pre .1) (e .if1 .left) (c .before .if2 .left) (c .if3 .taken))
+    refl
 
 copy-values-requires : tie.Need-copy-values-requires
 copy-values-requires c κs =

@@ -40,7 +40,12 @@ returns-2 c =
     let f = c .before .before in
     let w = f .before .before .before .before in
     let a = w .before .before .before in
-    law.write-written (asked a) (a .args .out .now) (f .put-file .last .1 .1 .1 .1 .0) (law.not-refused (asked a) (length (a .args .out .now)) (w .write-refusal .result) (w .write-refusal .ensures) (f .before .before .if1 .left)) (f .put-file .ensures)
+    law.write-written
+    (asked a)
+    (a .args .out .now)
+    (f .put-file .last .1 .1 .1 .1 .0)
+    (law.not-refused (asked a) (length (a .args .out .now)) (w .write-refusal .result) (w .write-refusal .ensures) (f .before .before .if1 .left))
+    (f .put-file .ensures)
 
 pub write-spec : {M : Type 1} → statement M
 write-spec =

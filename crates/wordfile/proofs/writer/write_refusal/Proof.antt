@@ -29,7 +29,14 @@ first-of-requires-2 c κs = search needs
 returns : tie.Need-returns
 returns c =
     let a = c .before .before .before .before .before .before .args in
-    law.write-refusal-is (request (a .capacity) (a .start) (a .end) (a .harvest .now)) (a .room) (c .before .before .before .before .frames-refusal .ensures) (c .before .before .before .refuse-if .ensures) (c .before .before .figures-refusal .ensures) (c .before .first-of .ensures) (c .first-of2 .ensures)
+    law.write-refusal-is
+    (request (a .capacity) (a .start) (a .end) (a .harvest .now))
+    (a .room)
+    (c .before .before .before .before .frames-refusal .ensures)
+    (c .before .before .before .refuse-if .ensures)
+    (c .before .before .figures-refusal .ensures)
+    (c .before .first-of .ensures)
+    (c .first-of2 .ensures)
 
 pub write-refusal-spec : {M : Type 1} → statement M
 write-refusal-spec =
