@@ -13,11 +13,8 @@ use crate::form::scan;
 use crate::word::value;
 use crate::word::word_at;
 use model::Refusal;
-
-// The most bytes of a file, and the most frames.
-const MAX_FILE_BYTES: usize = 11920;
-
-const MAX_FRAMES: usize = 2976;
+use model::limits::MAX_FILE_BYTES;
+use model::limits::MAX_FRAMES;
 
 // The figures of a request before its harvests, and the number of its frames.
 pub struct Header {
