@@ -16,7 +16,7 @@ verdict() { # a test's name and its status
 compare() { # a test's name, its expected output, and the command
     local name=$1 expected=$2
     shift 2
-    "$@" >"$work/out" 2>&1 && diff "$expected" "$work/out"
+    "$@" >"$work/out" && diff "$expected" "$work/out"
     verdict "$name" $?
 }
 c_program() { # a C file and the program to make of it

@@ -1,7 +1,6 @@
 //! The safe interface to `libenergy.a`: `include/energy.h` declared again, and its answers as Rust types.
 
 use crate::interface::Energy;
-use crate::reference::limits::MAX_FRAMES;
 use crate::types::{Figures, FileRead, NotRecorded, Refusal, Rest, Shift, Verdict};
 
 /// The declarations of `include/energy.h`.

@@ -1,15 +1,15 @@
--- The number of digits that the kit writes is the number of digits.
+-- The number of digits that the kit writes is the number of digits, and a number below 10 ^ k has at most k.
 use mathlib.Core.Path.{_≡_, refl, ap, _∙_}
 use mathlib.Core.Bool.{Bool, true, false}
-use Prim.Native.Nat.{ℕ, zero, suc, _-_, _*_, _/_, _^_, _≤_}
+use Prim.Native.Nat.{ℕ, zero, suc, _-_, _*_, _/_, _%_, _^_, _≤_, _<_}
 use native.Mathlib.Omega.{arith}
 use native.Mathlib.Nat.{pow-suc, pow-le-pow-right}
 use native.Mathlib.Decide.{decLe}
-use mathlib.Core.List.{List}
+use mathlib.Core.List.{List, [], _∷_}
 use lib.Dec.{ltb}
-use lib.ListN.{take}
+use lib.ListN.{length, take, length-append}
 use borrow.Author.Tests.{ltb-true, ltb-false}
-use Rattle.io.specs.Digits.{digits, Fewest}
+use Rattle.io.specs.Digits.{glyph, digits, Fewest}
 use Rattle.listing.specs.Decimal.{placesIn, places, decimal}
 
 -- fewest digits are no more than any other fewest
@@ -63,3 +63,23 @@ pub digits-part : (n k : ℕ) (xs : List ℕ) → Fewest 10 1 n k → take k xs 
 digits-part n k xs a e =
     let z : k - 0 ≡ k = omega arith in
     rw z (e ∙ digits-are n k a)
+
+-- so many digits are so long
+digits-length : (b k n : ℕ) → length (digits b k n) ≡ k
+digits-length b zero n = refl
+digits-length b (suc k) n =
+    let i = digits-length b k (n / b) in
+    omega (arith, length-append (digits b k (n / b)) (glyph (n % b) ∷ []))
+
+-- a number that k digits can hold is written in at most k
+pub decimal-length : (n k : ℕ) → 1 ≤ k → n < 10 ^ k → length (decimal n) ≤ k
+unfolding decimal places
+decimal-length n k l h =
+    let a = places-in n n (omega arith) in
+    rw (digits-length 10 (placesIn n n) n)
+    (elim (decLe (placesIn n n) k) [
+      | yes p ↦ p
+      | no p ↦ let q : 10 ^ (placesIn n n - 1) ≤ n = a .2 (omega arith) in
+          let r : 10 ^ k ≤ 10 ^ (placesIn n n - 1) = pow-le-pow-right {n = 10} (omega arith) {i = k} {j = placesIn n n - 1} (omega arith) in
+          absurd (omega arith)
+    ])

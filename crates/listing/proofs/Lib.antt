@@ -4,3 +4,5 @@ pub mod Decimal
 pub mod FrameLines
 pub mod Answers
 pub mod Cases
+pub mod Short
+pub mod Fits

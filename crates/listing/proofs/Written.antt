@@ -5,7 +5,7 @@ use Prim.Native.Nat.{ℕ, suc, _+_, _-_, _≤_, _<_}
 use native.Mathlib.Numerals.{add-one}
 use native.Mathlib.Omega.{arith}
 use lib.ListN.{length, getD, set, take, drop, length-append, length-take, length-drop}
-use lib.Seq.{take-nil, take-suc, take-all, take-append-le, set-at, drop-cons, append-snoc}
+use lib.Seq.{take-nil, take-suc, take-all, take-at, take-append-le, set-at, drop-cons, append-snoc}
 use Rattle.wordfile.specs.Lent.{over}
 use Rattle.listing.specs.Says.{Wrote}
 
@@ -63,6 +63,13 @@ wrote-more t s o o′ i n l w =
 -- all of a text
 pub wrote-all : (t s o o′ : List ℕ) (i n : ℕ) → length s ≤ i → Wrote (t ++ take i s) o o′ n → Wrote (t ++ s) o o′ n
 wrote-all t s o o′ i n l w = rw (take-all i s l) at w
+
+-- a text that finds room for all of it
+pub wrote-whole : (t o o′ : List ℕ) (n : ℕ) → length t ≤ length o → Wrote t o o′ n → (n ≡ length t) × (take n o′ ≡ t)
+wrote-whole t o o′ n l w =
+    let m : n ≡ length t = omega (arith, w .count) in
+    let e : o′ ≡ t ++ drop (length t) o = w .bytes ∙ ap (λ (x : List ℕ). over x o) (take-all (length o) t l) in
+    (m, ap (take n) e ∙ take-at t (drop (length t) o) n (sym m))
 
 -- the same text, its pieces joined in another order
 pub wrote-same : (s t o o′ : List ℕ) (n : ℕ) → s ≡ t → Wrote s o o′ n → Wrote t o o′ n

@@ -12,6 +12,10 @@ use Rattle.model.specs.Plan.{planOf, neededOf}
 use Rattle.wordfile.specs.File.{requestIn, readRefusal}
 use Rattle.listing.specs.Decimal.{decimal}
 
+-- room for every listing; that it is enough is proved (proofs/Fits.antt)
+abbrev pub listingBytes : ℕ
+listingBytes = 81920
+
 -- between two figures of a line
 abbrev pub space : List ℕ
 space = 32 ∷ []

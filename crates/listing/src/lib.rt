@@ -6,3 +6,6 @@ pub mod text;
 
 pub use listings::list;
 pub use listings::list_refusal;
+
+// Room for every listing.
+pub const LISTING_BYTES: usize = 81920;

@@ -9,7 +9,7 @@ ghost use Rattle.model.specs.Limits.{maxFrames};
 ghost use Rattle.model.specs.Request.{request};
 ghost use Rattle.model.specs.Refusals.{isNone, planRefusal};
 ghost use Rattle.listing.specs.Text.{framesText, budgetsText, requestText, listing, refusedLine};
-ghost use Rattle.listing.specs.Says.{Wrote};
+ghost use Rattle.listing.specs.Says.{Wrote, ListSays};
 use crate::frames::put_frames;
 use crate::lines::put_first;
 use crate::lines::put_refused;
@@ -137,7 +137,7 @@ fn list_file(
 
 // Writes what the plan program prints of a word file into the lent list, and answers how many bytes it wrote.
 pub fn list(file: &[u8], out: &mut [u8]) -> usize
-    ensures { λ r. ⌜ Wrote (listing (now (file .entry))) (now (out .entry)) (now (out .exit)) r ⌝ }
+    ensures { λ r. ⌜ ListSays (now (file .entry)) (now (out .entry)) (now (out .exit)) r ⌝ }
 {
     let mut harvest = [0u32; 2976];
     let mut budgets = [0u32; 2976];

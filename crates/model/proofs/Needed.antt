@@ -87,6 +87,15 @@ pub unlimited-storage : (r : Request) (c : ℕ) → mostEnergy r ≤ c → (bs :
     feasible (withCapacity r c) bs ≡ feasibleUnlimited r bs
 unlimited-storage r c h bs = unlimited-from c (r .end) (r .start) (r .harvest) bs h
 
+-- and each such capacity serves every table
+unlimited-serves : (r : Request) (c : ℕ) → mostEnergy r ≤ c → Serves r c
+unlimited-serves r c h f w v best =
+    let u = best .reached in
+    record {
+      reached = (u .0, unlimited-storage r c h (u .0) ∙ u .1, u .2);
+      highest = λ bs k. best .highest bs (sym (unlimited-storage r c h bs) ∙ k);
+    }
+
 module _ (r : Request) (reach : r .end ≤ mostEnergy r) where
   open-plan-is : planOf (withCapacity r (boundless r)) ≡ openPlan r
   unfolding planOf openPlan
@@ -175,6 +184,10 @@ module _ (r : Request) (reach : r .end ≤ mostEnergy r) where
     where
       three : (a b c d : ℕ) → a ≤ d → b ≤ d → c ≤ d → max a (max b c) ≤ d
       three a b c d p q s = omega arith
+
+  -- no more is needed than start plus all harvest
+  pub needed-at-most : neededOf r ≤ mostEnergy r
+  needed-at-most = needed-least (mostEnergy r) (omega arith) reach (unlimited-serves r (mostEnergy r) (le-refl (mostEnergy r)))
 
   pub needed-is : IsNeeded r (neededOf r)
   needed-is = record { over-start = needed-start; over-end = needed-end; serves = needed-serves; least = needed-least }

@@ -1,10 +1,11 @@
 // Prints the plan of the request in a word file: the file on standard input, the listing on standard output.
 use libc::STDIN_FILENO;
 use libc::STDOUT_FILENO;
+use listing::LISTING_BYTES;
 
 // The listing of a file; the list has room for every listing.
 fn show(file: &[u8]) {
-    let mut text = [0u8; 131072];
+    let mut text = [0u8; LISTING_BYTES];
     let n = listing::list(file, &mut text);
     io::write_all(STDOUT_FILENO, &text[0..n]);
 }

@@ -16,7 +16,7 @@ use Rattle.request.proofs.Order.{firstOf-all, firstOf-both}
 use Rattle.request.proofs.Harvest.{harvest-small}
 
 -- where a refusal made by a test is none, the test failed
-test-failed : (t : Bool) (n : ℕ) → isNone (refuseIf t (suc n)) ≡ true → t ≡ false
+pub test-failed : (t : Bool) (n : ℕ) → isNone (refuseIf t (suc n)) ≡ true → t ≡ false
 test-failed true n e = let z : suc n ≡ 0 = eqb-true (suc n) 0 e in let b : ⊥ = omega arith in absurd b
 test-failed false n e = refl
 

@@ -1,6 +1,6 @@
 -- The machine over the words: what each word is to it, and one step of it over a file.
 use mathlib.Core.Path.{_≡_, refl, sym, ap, _∙_}
-use mathlib.Core.List.{List, _∷_}
+use mathlib.Core.List.{List, [], _∷_}
 use Prim.Native.Nat.{ℕ, zero, suc, _+_, _*_, _≤_, _<_}
 use native.Mathlib.Omega.{arith}
 use borrow.Author.Tests.{lt-ltb, le-ltb, eq-eqb, ne-eqb}
@@ -115,3 +115,22 @@ pub missing :
 missing s n f h i x e inv =
     let none = drop-of-length-le (wordsFrom n s) {i = i} (omega (arith, words-length n s)) in
     ap Broken e ∙ (sym (ap (scan f h i) none) ∙ inv)
+
+-- the place that a form names: after the end word, or of the word that breaks the form
+abbrev pub placeIn : Form → ℕ
+placeIn (Closed words) = words
+placeIn (Broken p) = p
+
+-- the machine names no place beyond its words
+pub place-within : (f h i : ℕ) (ws : List ℕ) → placeIn (scan f h i ws) ≤ i + length ws
+place-within f h i [] = omega arith
+place-within f h i (w ∷ ws) =
+    rw (next-is f h i w ws (roleOf f h w) refl)
+    (go (roleOf f h w) (place-within (suc f) h (suc i) ws) (place-within f (suc h) (suc i) ws))
+  where
+    go : (r : Role) → placeIn (scan (suc f) h (suc i) ws) ≤ suc i + length ws → placeIn (scan f (suc h) (suc i) ws) ≤ suc i + length ws →
+        placeIn (next f h i ws r) ≤ i + length (w ∷ ws)
+    go Figure p q = omega arith
+    go Harvest p q = omega arith
+    go End p q = omega arith
+    go Wrong p q = omega arith
