@@ -5,4 +5,5 @@ pub mod Walk
 pub mod Range
 pub mod Carry
 pub mod Steps
+pub mod Steady
 pub mod Going

@@ -1,9 +1,9 @@
 -- The pace that is carried from frame to frame, and what a step with it gives.
 use mathlib.Core.Path.{_≡_}
 use mathlib.Core.Bool.{Bool, true}
-use mathlib.Core.List.{List, _∷_}
+use mathlib.Core.List.{List, _∷_, _++_}
 use Prim.Native.Nat.{ℕ, _+_, _-_, _≤_, _<_, _^_, max}
-use lib.ListN.{drop}
+use lib.ListN.{drop, take}
 use Rattle.model.specs.Request.{total}
 use Rattle.model.specs.Frames.{Frame, Feasible, plan}
 use Rattle.pace.specs.Frame.{reserveAt, drawn}
@@ -21,6 +21,15 @@ pub record Paced (e : ℕ) (fs : List Frame) (i y level spare : ℕ) (exact know
   pub lasts : known ≡ true → reserveAt e fs i level + spare ≤ y
   pub refuses : known ≡ true → y ≤ reserveAt e fs i (level + 1)
   pub tight : known ≡ true → exact ≡ true → y ≤ reserveAt e fs i level
+
+-- a known pace goes on from charge y inside a frame that gets a in all, with a ceiling m, a least lo and a most hi: it is neither
+-- full nor entered empty, and has room for one unit more than the level
+pub record Steady (a m lo hi y level : ℕ) (known : Bool) : Type 0 where
+  pub pace : known ≡ true
+  pub charged : 0 < y
+  pub below : a < m
+  pub low : lo ≤ level
+  pub high : level < hi
 
 -- a known pace inside a frame that has a, with a least lo and a most hi, followed by the frames from i on
 pub record Ahead (e : ℕ) (fs : List Frame) (i a lo hi level spare : ℕ) (exact : Bool) : Type 0 where
@@ -52,6 +61,14 @@ pub record Stepped (e : ℕ) (fs : List Frame) (i y b z level spare : ℕ) (exac
   pub fits : b < 2 ^ 32
   pub able : Able e fs (i + 1) z
   pub paced : Paced e fs (i + 1) z level spare exact known
+
+-- the budgets written before frame i, with the plan from there on, from charge y, are the whole
+pub record Written (e : ℕ) (fs : List Frame) (i y : ℕ) (bs whole : List ℕ) : Type 0 where
+  pub is : take i bs ++ plan e y (drop i fs) ≡ whole
+
+-- the greatest charge seen before frame i, with that of the plan from there on, from charge y, is the peak
+pub record Peaked (e : ℕ) (fs : List Frame) (i y top peak : ℕ) : Type 0 where
+  pub is : max top (peakCarried e y (drop i fs)) ≡ peak
 
 -- what the planning of harvests from a start charge asks: figures of 32 bits, and an end charge that can be kept and reached
 pub record Ready (capacity start end most : ℕ) (harvest : List ℕ) : Type 0 where

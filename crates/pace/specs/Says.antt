@@ -1,17 +1,22 @@
 -- What the functions promise, in terms of their structs.
-use mathlib.Core.List.{List}
-use Prim.Native.Nat.{ℕ, _<_, _^_}
-use Rattle.model.specs.Frames.{Frame}
+use mathlib.Core.Path.{_≡_}
+use mathlib.Core.List.{List, _++_}
+use Prim.Native.Nat.{ℕ, _≤_, _<_, _^_, max}
+use lib.ListN.{length, drop, take}
+use Rattle.model.specs.Frames.{Frame, plan}
 use Rattle.model.specs.Plan.{framesOf}
 use Rattle.pace.specs.declared.frame.Rule.{Rule}
 use Rattle.pace.specs.declared.frame.At.{At}
 use Rattle.pace.specs.declared.scan.Outcome.{Outcome}
 use Rattle.pace.specs.declared.search.Range.{Range}
 use Rattle.pace.specs.declared.step.Pace as struct
+use Rattle.pace.specs.declared.cruise.Leg.{Leg}
+use Rattle.pace.specs.declared.cruise.Top.{Top}
 use Rattle.pace.specs.Frame.{Read}
 use Rattle.pace.specs.Scan.{Scanned}
 use Rattle.pace.specs.Search.{Between}
-use Rattle.pace.specs.Pace.{Able, Paced, Ahead, Open, Drawn, Stepped}
+use Rattle.pace.specs.Peak.{peakCarried}
+use Rattle.pace.specs.Pace.{Able, Paced, Steady, Ahead, Open, Drawn, Stepped, Written, Peaked}
 
 -- the frames of harvests by a rule
 abbrev pub frames : Rule → List ℕ → List Frame
@@ -59,7 +64,32 @@ abbrev pub DrawnAt : Rule → List ℕ → ℕ → At → ℕ → struct.Pace �
 DrawnAt r hs i f a p =
     Drawn (r .end) (frames r hs) i a (f .least) (f .most) (p .budget) (p .charge) (p .level) (p .spare) (p .exact) (p .known)
 
+-- p goes on inside frame f, which gets a in all
+abbrev pub SteadyAt : At → ℕ → struct.Pace → Type 0
+SteadyAt f a p = Steady a (f .ceiling) (f .least) (f .most) (p .charge) (p .level) (p .known)
+
 -- from p before frame i, q holds the plan's budget of that frame and the pace after it
 abbrev pub SteppedAt : Rule → List ℕ → ℕ → struct.Pace → struct.Pace → Type 0
 SteppedAt r hs i p q =
     Stepped (r .end) (frames r hs) i (p .charge) (q .budget) (q .charge) (q .level) (q .spare) (q .exact) (q .known)
+
+-- the loop stands at frame i, with pace p
+pub record Going (r : Rule) (hs : List ℕ) (i : ℕ) (p : struct.Pace) : Type 0 where
+  pub within : i ≤ length hs
+  pub able : AbleAt r hs i p
+  pub paced : PacedAt r hs i p
+
+-- from p before frame i and budgets bs, a cruise has come to where g says and has written cs: the plan goes on from there
+pub record CruisedAt (r : Rule) (hs : List ℕ) (i : ℕ) (p : struct.Pace) (bs : List ℕ) (g : Leg) (cs : List ℕ) : Type 0 where
+  pub from : i ≤ g .at
+  pub going : Going r hs (g .at) (g .pace)
+  pub same : length cs ≡ length hs
+  pub written :
+      Written (r .end) (frames r hs) (g .at) (g .pace .charge) cs (take i bs ++ plan (r .end) (p .charge) (drop i (frames r hs)))
+
+-- from p before frame i and a greatest charge of top so far, a coasting has come to where g says
+pub record CoastedAt (r : Rule) (hs : List ℕ) (i : ℕ) (p : struct.Pace) (top : ℕ) (g : Top) : Type 0 where
+  pub from : i ≤ g .at
+  pub going : Going r hs (g .at) (g .pace)
+  pub peaked :
+      Peaked (r .end) (frames r hs) (g .at) (g .pace .charge) (g .charge) (max top (peakCarried (r .end) (p .charge) (drop i (frames r hs))))

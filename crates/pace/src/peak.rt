@@ -1,4 +1,5 @@
 // The greatest charge that the plan carries from frame to frame, without writing the plan.
+use super::cruise::coast;
 use super::frame::Rule;
 use super::number::greater;
 use super::step::set_off;
@@ -23,8 +24,10 @@ pub fn peak_charge(capacity: u64, start: u64, end: u64, most: u64, harvest: &[u3
     let mut i = 0;
     while i < harvest.len() {
         p = step(rule, harvest, i, p);
-        top = greater(top, p.charge);
-        i += 1;
+        let leg = coast(rule, harvest, i + 1, p, greater(top, p.charge));
+        p = leg.pace;
+        top = leg.charge;
+        i = leg.at;
     }
     top
 }

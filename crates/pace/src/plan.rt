@@ -1,4 +1,5 @@
-// The whole plan, written frame by frame.
+// The whole plan: a step where something must be looked for, and a cruise from there.
+use super::cruise::cruise;
 use super::frame::Rule;
 use super::step::set_off;
 use super::step::step;
@@ -30,6 +31,8 @@ pub fn plan_into(
     while i < harvest.len() {
         p = step(rule, harvest, i, p);
         budgets[i] = p.budget as u32;
-        i += 1;
+        let leg = cruise(rule, harvest, i + 1, p, budgets);
+        p = leg.pace;
+        i = leg.at;
     }
 }

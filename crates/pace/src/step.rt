@@ -37,7 +37,7 @@ pub fn set_off(start: u64) -> Pace
 }
 
 // Draws a budget of what a frame has, and goes on at a pace.
-fn carry(have: u64, budget: u64, level: u64, spare: u64, exact: bool, known: bool) -> Pace
+pub fn carry(have: u64, budget: u64, level: u64, spare: u64, exact: bool, known: bool) -> Pace
     requires { ⌜ budget ≤ have ⌝ }
     ensures { λ r. ⌜ r ≡ record { budget = budget; charge = have - budget; level = level; spare = spare; exact = exact; known = known } ⌝ }
 {
@@ -51,7 +51,8 @@ fn carry(have: u64, budget: u64, level: u64, spare: u64, exact: bool, known: boo
     }
 }
 
-// The budget of a frame that has so much and is followed by the frames from next on, at a known pace.
+// The budget of a frame that has so much and is followed by the frames from next on, at a known pace: a bound of the frame
+// gives it, or a scan for one unit more. What an exact pace or its spare gives, `glide` has drawn before.
 fn go_on(rule: Rule, harvest: &[u32], next: usize, f: At, have: u64, p: Pace) -> Pace
     requires { ⌜ Small rule × (next ≤ length (now harvest)) × AheadAt rule (now harvest) next f have p ⌝ }
     ensures { λ r. ⌜ DrawnAt rule (now (harvest .entry)) next f have r ⌝ }
@@ -62,12 +63,6 @@ fn go_on(rule: Rule, harvest: &[u32], next: usize, f: At, have: u64, p: Pace) ->
     }
     if f.most <= level {
         return carry(have, f.most, level, p.spare, p.exact, true);
-    }
-    if p.exact {
-        return carry(have, level, level, 0, true, true);
-    }
-    if 0 < p.spare {
-        return carry(have, level + 1, level, p.spare - 1, false, true);
     }
     if have <= level {
         return carry(have, level, level, 0, true, true);

@@ -1,8 +1,11 @@
 -- The loop that looks for the greatest charge: what is seen, with that of the rest, is the greatest.
 use Prim.Native.Nat.{_-_}
+use native.Mathlib.Omega.{arith}
 use lib.ListN.{length}
 use borrow.Author.Needs.{needs}
-use Rattle.pace.specs.Says.{frames}
+use Rattle.pace.specs.Peak.{peakCarried}
+use Rattle.pace.specs.Pace.{Peaked}
+use Rattle.pace.specs.Says.{frames, Going}
 use Rattle.pace.proofs.Frames.{frames-past}
 use Rattle.pace.proofs.Going as law
 use Rattle.pace.proofs.peak.peak_charge.Statement.{statement}
@@ -11,7 +14,7 @@ use Rattle.pace.proofs.peak.peak_charge.Tie as tie
 abbrev Inv-loop : tie.InvT-loop
 Inv-loop capacity start end most harvest rule p₀ top₀ i₀ p top i =
     let r = law.rule-of capacity end most in
-    law.Going r harvest i p × law.Peaked end start (frames r harvest) i (p .charge) top
+    Going r harvest i p × Peaked end (frames r harvest) i (p .charge) top (peakCarried end start (frames r harvest))
 
 abbrev μ-loop : tie.MeasureT-loop
 μ-loop capacity start end most harvest rule p₀ top₀ i₀ p top i = length harvest - i
@@ -33,24 +36,30 @@ step-requires c κs =
     let g = l .loop .inv .0 in
     (law.small (s .pre), c .loop-test .taken, g .able, g .paced)
 
+add-coast : tie.Need-add-coast Inv-loop μ-loop
+add-coast c = search needs
+
 greater-requires : tie.Need-greater-requires Inv-loop μ-loop
 greater-requires c κs = search needs
 
-add-i : tie.Need-add-i Inv-loop μ-loop
-add-i c = search needs
+coast-requires : tie.Need-coast-requires Inv-loop μ-loop
+coast-requires c κs =
+    let t = c .before .before in
+    let q = c .before .step .ensures in
+    (law.small (t .before .before .before .before .pre), omega (arith, t .loop-test .taken), q .able, q .paced)
 
 loop-less : tie.Need-loop-less Inv-loop μ-loop
-loop-less c = search needs
+loop-less c =
+    let g = c .before in
+    let t = g .before .before .before in
+    omega (arith, g .coast .ensures .from, t .loop-test .taken)
 
 loop-again : tie.Need-loop-again Inv-loop μ-loop
 loop-again c =
-    let q = c .before .step in
-    let t = c .before .before in
-    let l = t .before .loop in
-    let a = t .before .before .before .before .args in (
-      law.on (law.rule-of (a .capacity) (a .end) (a .most)) (a .harvest .now) (l .i) (l .p) (q .result) (t .loop-test .taken) (q .ensures),
-      law.peak-on (q .ensures) (c .greater .ensures) (l .inv .1),
-    )
+    let g = c .before in
+    let q = g .before .before .step in
+    let l = g .before .before .before .before .loop in
+    (g .coast .ensures .going, law.peak-over (law.peak-on (q .ensures) (g .before .greater .ensures) (l .inv .1)) (g .coast .ensures .peaked))
 
 returns : tie.Need-returns Inv-loop μ-loop
 returns c =
@@ -68,8 +77,9 @@ peak-charge-spec =
     set-off-requires
     loop-holds
     step-requires
+    add-coast
     greater-requires
-    add-i
+    coast-requires
     loop-less
     loop-again
     returns)

@@ -4,7 +4,9 @@ use Prim.Native.Nat.{_-_}
 use native.Mathlib.Omega.{arith}
 use lib.ListN.{length, length-set}
 use borrow.Author.Needs.{needs}
-use Rattle.pace.specs.Says.{frames}
+use Rattle.model.specs.Frames.{plan}
+use Rattle.pace.specs.Pace.{Written}
+use Rattle.pace.specs.Says.{frames, Going}
 use Rattle.pace.proofs.Frames.{frames-past}
 use Rattle.pace.proofs.Going as law
 use Rattle.pace.proofs.plan.plan_into.Statement.{statement}
@@ -13,7 +15,7 @@ use Rattle.pace.proofs.plan.plan_into.Tie as tie
 abbrev Inv-loop : tie.InvT-loop
 Inv-loop capacity start end most harvest budgets₀ rule p₀ i₀ budgets p i =
     let r = law.rule-of capacity end most in
-    (length budgets ≡ length harvest) × law.Going r harvest i p × law.Written end start (frames r harvest) i (p .charge) budgets
+    (length budgets ≡ length harvest) × Going r harvest i p × Written end (frames r harvest) i (p .charge) budgets (plan end start (frames r harvest))
 
 abbrev μ-loop : tie.MeasureT-loop
 μ-loop capacity start end most harvest budgets₀ rule p₀ i₀ budgets p i = length harvest - i
@@ -44,21 +46,36 @@ mul-budgets c = search needs
 slice-write-budgets : tie.Need-slice-write-budgets Inv-loop μ-loop
 slice-write-budgets c = search needs
 
-add-i : tie.Need-add-i Inv-loop μ-loop
-add-i c = search needs
+add-cruise : tie.Need-add-cruise Inv-loop μ-loop
+add-cruise c = search needs
+
+cruise-requires : tie.Need-cruise-requires Inv-loop μ-loop
+cruise-requires c κs =
+    let q = c .before .before .step in
+    let t = c .before .before .before in
+    let l = t .before .loop in (
+      law.small (t .before .before .before .before .before .pre .0),
+      omega (arith, t .loop-test .taken),
+      q .ensures .able,
+      q .ensures .paced,
+      length-set (l .budgets) (l .i) (q .result .budget) ∙ l .inv .0,
+    )
 
 loop-less : tie.Need-loop-less Inv-loop μ-loop
-loop-less c = search needs
+loop-less c =
+    let g = c .before .before .before in
+    let t = g .before .before .before .before in
+    omega (arith, g .cruise .ensures .from, t .loop-test .taken)
 
 loop-again : tie.Need-loop-again Inv-loop μ-loop
 loop-again c =
-    let q = c .before .step in
-    let t = c .before .before in
-    let l = t .before .loop in
-    let a = t .before .before .before .before .before .args in (
-      length-set (l .budgets) (l .i) (q .result .budget) ∙ l .inv .0,
-      law.on (law.rule-of (a .capacity) (a .end) (a .most)) (a .harvest .now) (l .i) (l .p) (q .result) (t .loop-test .taken) (q .ensures),
-      law.write-on (q .ensures) (omega (arith, t .loop-test .taken, l .inv .0)) (l .inv .2),
+    let g = c .before .before .before in
+    let q = g .before .before .before .step in
+    let t = g .before .before .before .before in
+    let l = t .before .loop in (
+      g .cruise .ensures .same,
+      g .cruise .ensures .going,
+      law.write-over (law.write-on (q .ensures) (omega (arith, t .loop-test .taken, l .inv .0)) (l .inv .2)) (g .cruise .ensures .written),
     )
 
 same-length : tie.Need-same-length Inv-loop μ-loop
@@ -83,7 +100,8 @@ plan-into-spec =
     cast-budgets
     mul-budgets
     slice-write-budgets
-    add-i
+    add-cruise
+    cruise-requires
     loop-less
     loop-again
     same-length

@@ -30,35 +30,7 @@ returns-3 c =
     let h = c .before .before in
     let l = h .before .before in
     let s = l .before .before .before in
-    rw (c .carry3 .ensures) (law.draws-exact (s .pre .2) (l .if1 .left) (h .if2 .left) (c .before .if3 .taken))
-
-add-carry : tie.Need-add-carry
-add-carry c = search needs
-
-sub-carry : tie.Need-sub-carry
-sub-carry c = search needs
-
-carry-requires-4 : tie.Need-carry-requires-4
-carry-requires-4 c κs = search needs
-
-returns-4 : tie.Need-returns-4
-returns-4 c =
-    let t = c .before .before in
-    let h = t .before .before .before in
-    let l = h .before .before in
-    let s = l .before .before .before in
-    rw (c .carry4 .ensures) (law.draws-spare (s .pre .2) (l .if1 .left) (h .if2 .left) (t .if4 .taken))
-
-carry-requires-5 : tie.Need-carry-requires-5
-carry-requires-5 c κs = search needs
-
-returns-5 : tie.Need-returns-5
-returns-5 c =
-    let t = c .before in
-    let h = t .before .before .before .before in
-    let l = h .before .before in
-    let s = l .before .before .before in
-    rw (c .carry5 .ensures) (law.draws-all (s .pre .2) (l .if1 .left) (h .if2 .left) (t .if5 .taken))
+    rw (c .carry3 .ensures) (law.draws-all (s .pre .2) (l .if1 .left) (h .if2 .left) (c .before .if3 .taken))
 
 add-scan : tie.Need-add-scan
 add-scan c = search needs
@@ -69,31 +41,31 @@ sub-scan c = search needs
 scan-requires : tie.Need-scan-requires
 scan-requires c κs = search needs
 
-add-carry-2 : tie.Need-add-carry-2
-add-carry-2 c = search needs
+add-carry : tie.Need-add-carry
+add-carry c = search needs
 
-carry-requires-6 : tie.Need-carry-requires-6
-carry-requires-6 c κs = search needs
+carry-requires-4 : tie.Need-carry-requires-4
+carry-requires-4 c κs = search needs
 
-returns-6 : tie.Need-returns-6
-returns-6 c =
+returns-4 : tie.Need-returns-4
+returns-4 c =
     let f = c .before .before in
-    let h = f .before .before .before .before .before in
+    let h = f .before .before in
     let l = h .before .before in
     let s = l .before .before .before in
-    rw (c .carry6 .ensures)
-    (law.draws-scanned (s .pre .2) (l .if1 .left) (h .if2 .left) (f .scan .ensures) (f .before .if5 .left) (c .before .if6 .taken))
+    rw (c .carry4 .ensures)
+    (law.draws-scanned (s .pre .2) (l .if1 .left) (h .if2 .left) (f .scan .ensures) (f .before .if3 .left) (c .before .if4 .taken))
 
-carry-requires-7 : tie.Need-carry-requires-7
-carry-requires-7 c κs = search needs
+carry-requires-5 : tie.Need-carry-requires-5
+carry-requires-5 c κs = search needs
 
-returns-7 : tie.Need-returns-7
-returns-7 c =
+returns-5 : tie.Need-returns-5
+returns-5 c =
     let f = c .before .before in
-    let h = f .before .before .before .before .before in
+    let h = f .before .before in
     let l = h .before .before in
     let s = l .before .before .before in
-    rw (c .carry7 .ensures) (law.draws-failed (s .pre .2) (l .if1 .left) (h .if2 .left) (f .scan .ensures) (c .before .if6 .left))
+    rw (c .carry5 .ensures) (law.draws-failed (s .pre .2) (l .if1 .left) (h .if2 .left) (f .scan .ensures) (c .before .if4 .left))
 
 pub go-on-spec : {M : Type 1} → statement M
 go-on-spec =
@@ -105,17 +77,11 @@ go-on-spec =
     returns-2
     carry-requires-3
     returns-3
-    add-carry
-    sub-carry
-    carry-requires-4
-    returns-4
-    carry-requires-5
-    returns-5
     add-scan
     sub-scan
     scan-requires
-    add-carry-2
-    carry-requires-6
-    returns-6
-    carry-requires-7
-    returns-7)
+    add-carry
+    carry-requires-4
+    returns-4
+    carry-requires-5
+    returns-5)
