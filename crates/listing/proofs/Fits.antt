@@ -2,15 +2,15 @@
 use mathlib.Core.Path.{_≡_, refl}
 use mathlib.Core.Bool.{Bool, true, false}
 use mathlib.Core.List.{List, [], _∷_, _++_}
-use Prim.Native.Nat.{ℕ, suc, _+_, _-_, _*_, _^_, _≤_, _<_}
+use Prim.Native.Nat.{ℕ, suc, _+_, _*_, _^_, _≤_, _<_}
 use native.Mathlib.Omega.{arith}
 use lib.ListN.{length, take, length-append}
 use Rattle.model.specs.declared.Refusal.{Refusal}
 use Rattle.model.specs.Choice.{pick}
 use Rattle.model.specs.Limits.{maxFrames, maxHarvest, maxCapacity}
-use Rattle.model.specs.Request.{Request, frameCount, total, mostEnergy}
+use Rattle.model.specs.Request.{Request, frameCount, total}
 use Rattle.model.specs.Refusals.{isNone, planRefusal}
-use Rattle.model.specs.Charge.{feasible, frameEnd, chargesFrom, charges}
+use Rattle.model.specs.Charge.{frameEnd, chargesFrom, charges}
 use Rattle.model.specs.Curves.{houseCurve, worth, grade}
 use Rattle.model.specs.Plan.{planOf, neededOf}
 use Rattle.model.proofs.Curves.{worth-bound}

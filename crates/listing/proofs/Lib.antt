@@ -1,4 +1,4 @@
--- Laws of text written on, of decimal digits, of the frames' lines, and of the answers that the listing shows.
+-- Laws of text written on, of decimal digits, of the frames' lines, of the answers that the listing shows, and of its length.
 pub mod Written
 pub mod Decimal
 pub mod FrameLines

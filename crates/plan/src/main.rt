@@ -1,12 +1,24 @@
 // Prints the plan of the request in a word file: the file on standard input, the listing on standard output.
+ghost use mathlib.Core.Path.{_≡_};
+ghost use Prim.Native.Nat.{_≤_};
+ghost use lib.ListN.{length, take};
+ghost use Rattle.listing.specs.Text.{listing};
 use libc::STDIN_FILENO;
 use libc::STDOUT_FILENO;
 use listing::LISTING_BYTES;
 
-// The listing of a file; the list has room for every listing.
+// Writes the listing of a file, which the list has room for whatever the file, and answers its length.
+fn write_listing(file: &[u8], text: &mut [u8; LISTING_BYTES]) -> usize
+    ensures { λ r. ⌜ r ≤ length (now (text .exit)) ⌝ }
+    ensures { λ r. ⌜ take r (now (text .exit)) ≡ listing (now (file .entry)) ⌝ }
+{
+    listing::list(file, text)
+}
+
+// Prints the listing of a file.
 fn show(file: &[u8]) {
     let mut text = [0u8; LISTING_BYTES];
-    let n = listing::list(file, &mut text);
+    let n = write_listing(file, &mut text);
     io::write_all(STDOUT_FILENO, &text[0..n]);
 }
 
