@@ -197,11 +197,12 @@ module _ {e : ℕ} {fs : List Frame} {i a lo hi level spare : ℕ} {exact : Bool
     pub draws-all : a ≤ level → Drawn e fs i a lo hi level (a - level) level 0 true true
     draws-all p = draws-level (all-drawn level (reserveAt e fs i level) a p)
 
-    module _ {ok : Bool} {t : ℕ} (scanned : Scanned e fs i (a - (level + 1)) level ok t) where
-      -- one unit more goes on
-      pub draws-scanned : level < a → ok ≡ true → Drawn e fs i a lo hi (level + 1) (a - (level + 1)) level t false true
-      draws-scanned p z = draws-more t (scan-goes level (reserveAt e fs i level) t a p (scanned .goes z))
+    -- one unit more goes on with so much to spare
+    pub draws-scanned : (t : ℕ) → level < a → reserveAt e fs i level + t ≤ a - (level + 1) →
+        Drawn e fs i a lo hi (level + 1) (a - (level + 1)) level t false true
+    draws-scanned t p k = draws-more t (scan-goes level (reserveAt e fs i level) t a p k)
 
+    module _ {ok : Bool} {t : ℕ} (scanned : Scanned e fs i (a - (level + 1)) level ok t) where
       -- one unit more fails
       pub draws-failed : ok ≡ false → Drawn e fs i a lo hi level (a - level) level 0 true true
       draws-failed z = draws-level (scan-fails level (reserveAt e fs i level) a (scanned .fails z))

@@ -2,6 +2,7 @@
 pub mod Reserve
 pub mod Frames
 pub mod Walk
+pub mod Depths
 pub mod Range
 pub mod Carry
 pub mod Steps

@@ -34,17 +34,17 @@ dry-on v r y h m w q f p = omega arith
 charge-on : (y h m w : ℕ) → y + h < m → m ≤ 2 ^ 33 → y + h - w ≤ 2 ^ 33
 charge-on y h m w f p = omega arith
 
-le-min : (t a b : ℕ) → t ≡ min a b → (t ≤ a) × (t ≤ b)
+pub le-min : (t a b : ℕ) → t ≡ min a b → (t ≤ a) × (t ≤ b)
 le-min t a b q = (omega arith, omega arith)
 
-le-two : (a b c : ℕ) → a ≤ b → b ≤ c → a ≤ c
+pub le-two : (a b c : ℕ) → a ≤ b → b ≤ c → a ≤ c
 le-two a b c p q = omega arith
 
 le-more : {a b : ℕ} → a ≤ b → a ≤ b + 1
 le-more p = omega arith
 
 -- the level goes on, or it fails
-does : {e : ℕ} {fs : List Frame} {i y l : ℕ} {ok : Bool} {t : ℕ} → ok ≡ true → reserveAt e fs i l + t ≤ y → Scanned e fs i y l ok t
+pub does : {e : ℕ} {fs : List Frame} {i y l : ℕ} {ok : Bool} {t : ℕ} → ok ≡ true → reserveAt e fs i l + t ≤ y → Scanned e fs i y l ok t
 does q k = record { goes = λ _. k; fails = λ z. absurd (false≢true (sym z ∙ q)) }
 
 doesnt : {e : ℕ} {fs : List Frame} {i y l : ℕ} {ok : Bool} {t : ℕ} → ok ≡ false → y < reserveAt e fs i l → Scanned e fs i y l ok t

@@ -1,18 +1,19 @@
 -- What the functions promise, in terms of their structs.
 use mathlib.Core.Path.{_≡_}
 use mathlib.Core.List.{List, _++_}
-use Prim.Native.Nat.{ℕ, _≤_, _<_, _^_, max}
+use Prim.Native.Nat.{ℕ, _+_, _≤_, _<_, _^_, max}
 use lib.ListN.{length, drop, take}
 use Rattle.model.specs.Frames.{Frame, plan}
 use Rattle.model.specs.Plan.{framesOf}
 use Rattle.pace.specs.declared.frame.Rule.{Rule}
 use Rattle.pace.specs.declared.frame.At.{At}
 use Rattle.pace.specs.declared.scan.Outcome.{Outcome}
+use Rattle.pace.specs.declared.dive.Depth.{Depth}
 use Rattle.pace.specs.declared.search.Range.{Range}
 use Rattle.pace.specs.declared.step.Pace as struct
 use Rattle.pace.specs.declared.cruise.Leg.{Leg}
 use Rattle.pace.specs.declared.cruise.Top.{Top}
-use Rattle.pace.specs.Frame.{Read}
+use Rattle.pace.specs.Frame.{reserveAt, Read}
 use Rattle.pace.specs.Scan.{Scanned}
 use Rattle.pace.specs.Search.{Between}
 use Rattle.pace.specs.Peak.{peakCarried}
@@ -34,6 +35,14 @@ ReadAt r hs i f = Read (frames r hs) i (f .inflow) (f .ceiling) (f .drain) (f .l
 -- o is what drawing level l from charge y at frame i on finds
 abbrev pub ScannedAt : Rule → List ℕ → ℕ → ℕ → ℕ → Outcome → Type 0
 ScannedAt r hs i y l o = Scanned (r .end) (frames r hs) i y l (o .ok) (o .spare)
+
+-- o is what diving at level l from charge y at frame i on finds
+abbrev pub DivedAt : Rule → List ℕ → ℕ → ℕ → ℕ → Depth → Type 0
+DivedAt r hs i y l o = Scanned (r .end) (frames r hs) i y l (o .ok) (o .spare)
+
+-- level l goes on from charge y at frame i on with s to spare
+abbrev pub SparesAt : Rule → List ℕ → ℕ → ℕ → ℕ → ℕ → Type 0
+SparesAt r hs i y l s = reserveAt (r .end) (frames r hs) i l + s ≤ y
 
 -- g holds the budget of frame f, which has a and comes before frame i
 abbrev pub BetweenAt : Rule → List ℕ → ℕ → At → ℕ → Range → Type 0

@@ -2,6 +2,7 @@
 // budgets differ by one unit at most, so only an event starts a new search. Everything here is for the entries of other
 // crates, which have checked the request; they need `plan_into` and `peak_charge`.
 pub mod cruise;
+pub mod dive;
 pub mod frame;
 pub mod glide;
 pub mod number;

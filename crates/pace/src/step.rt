@@ -1,5 +1,6 @@
 // One frame of the plan with the pace carried along: where the store is neither full nor empty, the budget is the level or
 // one unit more; a full or an empty store sets out anew with a search.
+use super::dive::deepen;
 use super::frame::At;
 use super::frame::Rule;
 use super::frame::frame_at;
@@ -67,9 +68,11 @@ fn go_on(rule: Rule, harvest: &[u32], next: usize, f: At, have: u64, p: Pace) ->
     if have <= level {
         return carry(have, level, level, 0, true, true);
     }
-    let found = scan(rule, harvest, next, have - (level + 1), level);
+    let rest = have - (level + 1);
+    let found = scan(rule, harvest, next, rest, level);
     if found.ok {
-        return carry(have, level + 1, level, found.spare, false, true);
+        let spare = deepen(rule, harvest, next, rest, level, found.spare);
+        return carry(have, level + 1, level, spare, false, true);
     }
     carry(have, level, level, 0, true, true)
 }

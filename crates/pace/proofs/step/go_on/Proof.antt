@@ -1,4 +1,5 @@
 -- Each branch at a known pace draws the budget.
+use native.Mathlib.Omega.{arith}
 use borrow.Author.Needs.{needs}
 use Rattle.pace.proofs.Carry as law
 use Rattle.pace.proofs.step.go_on.Statement.{statement}
@@ -32,14 +33,20 @@ returns-3 c =
     let s = l .before .before .before in
     rw (c .carry3 .ensures) (law.draws-all (s .pre .2) (l .if1 .left) (h .if2 .left) (c .before .if3 .taken))
 
-add-scan : tie.Need-add-scan
-add-scan c = search needs
+add-rest : tie.Need-add-rest
+add-rest c = search needs
 
-sub-scan : tie.Need-sub-scan
-sub-scan c = search needs
+sub-rest : tie.Need-sub-rest
+sub-rest c = search needs
 
 scan-requires : tie.Need-scan-requires
 scan-requires c κs = search needs
+
+deepen-requires : tie.Need-deepen-requires
+deepen-requires c κs =
+    let f = c .before in
+    let pre = f .before .before .before .before .before .before .before .pre in
+    (pre .0, omega (arith, pre .2 .have-fits), omega (arith, pre .2 .level-fits), pre .1, f .scan .ensures .goes (c .if4 .taken))
 
 add-carry : tie.Need-add-carry
 add-carry c = search needs
@@ -49,12 +56,13 @@ carry-requires-4 c κs = search needs
 
 returns-4 : tie.Need-returns-4
 returns-4 c =
-    let f = c .before .before in
-    let h = f .before .before in
+    let d = c .before in
+    let n = d .before .before .before in
+    let h = n .before in
     let l = h .before .before in
     let s = l .before .before .before in
     rw (c .carry4 .ensures)
-    (law.draws-scanned (s .pre .2) (l .if1 .left) (h .if2 .left) (f .scan .ensures) (f .before .if3 .left) (c .before .if4 .taken))
+    (law.draws-scanned (s .pre .2) (l .if1 .left) (h .if2 .left) (d .deepen .result) (n .if3 .left) (d .deepen .ensures))
 
 carry-requires-5 : tie.Need-carry-requires-5
 carry-requires-5 c κs = search needs
@@ -77,9 +85,10 @@ go-on-spec =
     returns-2
     carry-requires-3
     returns-3
-    add-scan
-    sub-scan
+    add-rest
+    sub-rest
     scan-requires
+    deepen-requires
     add-carry
     carry-requires-4
     returns-4
