@@ -12,6 +12,9 @@ struct Store<'a> {
     harvest: &'a [u32],
 }
 
+/// A spare that serves for so many frames is worth no dive.
+const ENOUGH: u64 = 4;
+
 /// How drawing a level went.
 struct Outcome {
     /// The level can be drawn until the store is full or the end charge is met.
@@ -129,10 +132,41 @@ impl Store<'_> {
         }
         let outcome = self.scan(next, have - level - 1, level);
         if outcome.goes {
-            one_more(have, level, outcome.spare)
+            one_more(have, level, self.deepen(next, have - level - 1, level, outcome.spare))
         } else {
             at_level(have, level)
         }
+    }
+
+    /// The spare that a scan found, or a greater one where it found little: the store was just full, and need not have been.
+    fn deepen(&self, from: usize, charge: u64, level: u64, spare: u64) -> u64 {
+        if ENOUGH <= spare {
+            return spare;
+        }
+        self.dive(from, charge, level).unwrap_or(spare)
+    }
+
+    /// How much could be missing and the level would still go on: a scan of the charge less `low` units, which grow where
+    /// the store is full.
+    fn dive(&self, from: usize, charge: u64, level: u64) -> Option<u64> {
+        let (mut charge, mut low, mut room) = (charge, 0_u64, charge);
+        for &h in &self.harvest[from..] {
+            let over = (charge + 1).saturating_sub(self.capacity);
+            if room < over {
+                return Some(low + room);
+            }
+            let have = charge + u64::from(h) - over;
+            if have < level {
+                return (low + over).checked_sub(1);
+            }
+            charge = have - level;
+            low += over;
+            room = (room - over).min(charge);
+        }
+        if charge < self.end {
+            return low.checked_sub(1);
+        }
+        Some(low + room.min(charge - self.end))
     }
 
     /// The budget of frame i.
