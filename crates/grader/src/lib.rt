@@ -1,8 +1,8 @@
 // Grading: what a list of budgets is worth on each of the three house curves.
 ghost use Rattle.grader.specs.Says.{GradeSays};
 
-pub mod curves;
-pub mod lists;
+mod curves;
+mod lists;
 
 // The sums over a list of budgets on curves 0, 1 and 2.
 pub struct Sums {

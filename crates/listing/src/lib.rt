@@ -1,5 +1,5 @@
 // The text that the plan program prints, written into a lent list of bytes.
-pub mod frames;
+mod frames;
 pub mod lines;
 pub mod listings;
 pub mod text;

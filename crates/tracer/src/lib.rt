@@ -2,8 +2,8 @@
 ghost use Rattle.model.specs.Request.{request};
 ghost use Rattle.tracer.specs.Says.{TraceSays};
 
-pub mod recurrence;
-pub mod verdicts;
+mod recurrence;
+mod verdicts;
 
 // What the tracer answers. A frame below zero has its number, counted from 1.
 pub enum TraceAnswer {

@@ -1,7 +1,7 @@
 // Word files: a request as 32-bit words, read into lent lists and written into a lent list of bytes.
 pub mod form;
 pub mod reader;
-pub mod word;
+mod word;
 pub mod writer;
 
 pub use form::Form;
