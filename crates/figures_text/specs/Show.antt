@@ -1,6 +1,6 @@
 -- The figures in a word file as text, and the word file that a text of figures asks for.
 use mathlib.Core.List.{List, [], _∷_, _++_}
-use Prim.Native.Nat.{ℕ, _-_}
+use Prim.Native.Nat.{ℕ, _-_, _+_}
 use lib.Dec.{eqb, ltb}
 use lib.ListN.{length, getD, take, drop}
 use Rattle.model.specs.declared.Refusal.{Refusal}
@@ -27,6 +27,10 @@ abbrev pub shown : List ℕ → List ℕ
 shown s =
     let f = readRefusal s maxFrames in
     pick (isNone f) (figuresText (requestIn s)) (refusedLine f)
+
+-- room for one figure more than a request may have
+abbrev pub figuresRoom : ℕ
+figuresRoom = 3 + maxFrames + 1
 
 -- the figures of a text, as many as a list of that room holds
 abbrev pub given : List ℕ → ℕ → List ℕ

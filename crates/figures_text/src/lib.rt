@@ -1,4 +1,4 @@
 // Figures as readable text: read from text into a word file, and written from a word file as text.
 pub mod make;
-pub mod parse;
+mod parse;
 pub mod show;

@@ -1,5 +1,6 @@
 // The word file of a text of figures.
 ghost use lib.ListN.{length};
+ghost use Rattle.figures_text.specs.Show.{figuresRoom};
 ghost use Rattle.figures_text.specs.Says.{MakeSays};
 use crate::parse::ParseAnswer;
 use crate::parse::parse;
@@ -7,8 +8,8 @@ use model::Refusal;
 use wordfile::WriteAnswer;
 use wordfile::write;
 
-// Writes the word file of a text of figures into the lent bytes, with a list lent for the figures.
-pub fn make_words(text: &[u8], figures: &mut [u32], out: &mut [u8]) -> WriteAnswer
+// The word file of a text, with a list lent for the figures.
+fn make_with(text: &[u8], figures: &mut [u32], out: &mut [u8]) -> WriteAnswer
     ensures { λ r. ⌜ MakeSays (now (text .entry)) (length (now (figures .entry))) (now (out .entry)) (now (out .exit)) r ⌝ }
 {
     let answer = parse(text, figures);
@@ -30,4 +31,12 @@ pub fn make_words(text: &[u8], figures: &mut [u32], out: &mut [u8]) -> WriteAnsw
             write(capacity, start, end, &figures[3..n], out)
         }
     }
+}
+
+// Writes the word file of a text of figures into the lent bytes. One figure more than a request may have is enough to refuse it.
+pub fn make_words(text: &[u8], out: &mut [u8]) -> WriteAnswer
+    ensures { λ r. ⌜ MakeSays (now (text .entry)) figuresRoom (now (out .entry)) (now (out .exit)) r ⌝ }
+{
+    let mut figures = [0u32; 2980];
+    make_with(text, &mut figures, out)
 }

@@ -13,11 +13,10 @@ fn refuse(refusal: Refusal) {
     io::write_all(STDERR_FILENO, &line[0..n]);
 }
 
-// The word file of a text. One figure more than a request may have is enough to refuse it.
+// The word file of a text.
 fn convert(text: &[u8]) {
-    let mut figures = [0u32; 2980];
     let mut file = [0u8; 11920];
-    let answer = figures_text::make::make_words(text, &mut figures, &mut file);
+    let answer = figures_text::make::make_words(text, &mut file);
     match answer {
         WriteAnswer::Written(n) => {
             io::write_all(STDOUT_FILENO, &file[0..n]);

@@ -8,9 +8,6 @@ use Rattle.words.proofs.convert.Tie as tie
 slice-aggregate-make-words : tie.Need-slice-aggregate-make-words
 slice-aggregate-make-words c = search needs
 
-slice-aggregate-make-words-2 : tie.Need-slice-aggregate-make-words-2
-slice-aggregate-make-words-2 c = search needs
-
 make-words-requires : tie.Need-make-words-requires
 make-words-requires c κs = search needs
 
@@ -26,8 +23,8 @@ part-write-all-start c = search needs
 part-write-all-end : tie.Need-part-write-all-end
 part-write-all-end c =
     let g = c .before .before in
-    let m = g .before .before .before .before in
-    omega (arith, written-fits _ _ _ (m .make-words .last .1 .1 .0) (m .make-words .result) (g .answer .given .0 .0) (m .make-words .ensures) (g .answer .given .1))
+    let m = g .before .before .before in
+    omega (arith, written-fits _ _ _ (m .make-words .last .1 .0) (m .make-words .result) (g .answer .given .0 .0) (m .make-words .ensures) (g .answer .given .1))
 
 write-all-requires : tie.Need-write-all-requires
 write-all-requires c κs = search needs
@@ -49,7 +46,6 @@ convert-spec =
     tie.close
     (tie.spec
     slice-aggregate-make-words
-    slice-aggregate-make-words-2
     make-words-requires
     enum-known-answer
     sub-write-all

@@ -1,9 +1,9 @@
--- `figures_text::make::make_words` meets its contract.
+-- `figures_text::make::make_with` meets its contract.
 use native.Mathlib.Omega.{arith}
 use Rattle.figures_text.proofs.Made as law
 use borrow.Author.Needs.{needs}
-use Rattle.figures_text.proofs.make.make_words.Statement.{statement}
-use Rattle.figures_text.proofs.make.make_words.Tie as tie
+use Rattle.figures_text.proofs.make.make_with.Statement.{statement}
+use Rattle.figures_text.proofs.make.make_with.Tie as tie
 
 parse-requires : tie.Need-parse-requires
 parse-requires c κs = search needs
@@ -112,8 +112,8 @@ returns-3 c =
     (i .if1 .left)
     (w .write .ensures)
 
-pub make-words-spec : {M : Type 1} → statement M
-make-words-spec =
+pub make-with-spec : {M : Type 1} → statement M
+make-with-spec =
     tie.close
     (tie.spec
     parse-requires
