@@ -1,17 +1,11 @@
 -- What the number of a flattened outcome says: 0 for a value, and otherwise the refusal's.
 use mathlib.Core.Path.{_≡_, refl, sym, ap, _∙_}
 use mathlib.Core.Bool.{Bool, true, false}
-use Prim.Native.Nat.{ℕ}
-use native.Mathlib.Omega.{arith}
 use borrow.Author.Tests.{eq-eqb, eqb-true}
 use Rattle.model.specs.declared.Refusal.{Refusal}
 use Rattle.model.specs.Choice.{pick}
 use Rattle.model.specs.Refusals.{Outcome, gives, refuses, outcome, isNone}
 use Rattle.energy.specs.Flat.{numberOf, valueOr}
-
--- a refusal is no value
-pub no-refusal : {A : Type 0} (f : Refusal) (v : A) → refuses f ≡ gives v → ⊥
-no-refusal f v e = let z : _≡_ {A = ℕ} 0 1 = cc in omega arith
 
 module _ {A : Type 0} (f : Refusal) (v : A) (o : Outcome A) (is : o ≡ outcome f v) where
   -- the number is that of the refusal, which has 0 for none

@@ -12,9 +12,9 @@ use Rattle.model.specs.declared.Refusal.{Refusal}
 use Rattle.model.specs.Choice.{pick}
 use Rattle.model.specs.Request.{Request, request, frameCount}
 use Rattle.model.specs.Refusals.{refusal, none, isNone, refuseIf, firstOf, framesRefusals, figureRefusals}
+use Rattle.model.proofs.Outcome.{gave}
 use Rattle.request.proofs.Order.{firstOf-one, firstOf-none}
 use Rattle.wordfile.specs.Lent.{over}
-use Rattle.listing.proofs.Answers.{gave}
 use Rattle.wordfile.specs.File.{fileBytes, writeRefusal}
 use Rattle.wordfile.specs.Says.{WriteSays, writeSaid}
 use Rattle.wordfile.specs.declared.writer.WriteAnswer.{WriteAnswer}

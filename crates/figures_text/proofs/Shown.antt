@@ -12,6 +12,7 @@ use Rattle.model.specs.Choice.{pick}
 use Rattle.model.specs.Limits.{maxFrames}
 use Rattle.model.specs.Request.{request}
 use Rattle.model.specs.Refusals.{isNone}
+use Rattle.model.proofs.Outcome.{refused}
 use Rattle.wordfile.specs.File.{requestIn, readRefusal}
 use Rattle.wordfile.specs.Says.{ReadSays, readSaid, headerOf}
 use Rattle.wordfile.specs.declared.reader.Header.{Header}
@@ -21,7 +22,7 @@ use Rattle.listing.specs.Says.{Wrote}
 use Rattle.listing.specs.Decimal.{decimal}
 use Rattle.listing.specs.Text.{lineEnd, refusedLine}
 use Rattle.listing.proofs.Written.{wrote-same}
-use Rattle.listing.proofs.Answers.{IsRead, refused}
+use Rattle.listing.proofs.Answers.{IsRead}
 use Rattle.figures_text.specs.Show.{harvestLines, figuresText, shown}
 
 -- one harvest more

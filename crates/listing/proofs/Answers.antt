@@ -1,6 +1,6 @@
 -- What the answers of the entries say that the listing calls, for a request that the planner does not refuse.
 use mathlib.Core.Path.{_≡_, refl, sym, ap, _∙_}
-use mathlib.Core.Bool.{Bool, true, false, false≢true}
+use mathlib.Core.Bool.{Bool, true, false}
 use mathlib.Core.List.{List, [], _∷_, _++_, map, append-assoc}
 use Prim.Native.Nat.{ℕ, _+_, _-_, _≤_}
 use native.Mathlib.Omega.{arith}
@@ -15,11 +15,12 @@ use Rattle.model.specs.Choice.{pick}
 use Rattle.model.specs.Limits.{maxFrames, maxCapacity}
 use Rattle.model.specs.Request.{Request, request, frameCount}
 use Rattle.model.specs.Refusals as R
-use Rattle.model.specs.Refusals.{gives, refuses, outcome, isNone, firstOf, planRefusal}
+use Rattle.model.specs.Refusals.{isNone, firstOf, planRefusal}
 use Rattle.model.specs.Charge.{charges, feasible}
 use Rattle.model.specs.Trace.{trace}
 use Rattle.model.specs.Plan.{planOf, openPlan, neededOf}
 use Rattle.model.proofs.Trace.{trace-charges, feasible-length}
+use Rattle.model.proofs.Outcome.{gave, refused, no-refusal}
 use Rattle.request.proofs.Order.{firstOf-append, firstOf-both, firstOf-all}
 use Rattle.request.proofs.Within.{plan-within}
 use Rattle.planner.specs.Says.{PlanSays, NeededSays, planSaid, neededSaid}
@@ -43,29 +44,6 @@ use Rattle.listing.specs.Says.{Wrote}
 use Rattle.listing.specs.Text.{frameLines, worthLine, framesText, budgetsText, refusedLine, requestText, listing}
 use Rattle.listing.proofs.Written.{wrote-same}
 use Rattle.listing.proofs.FrameLines.{amounts, amounts-pos, pos-nonNeg}
-
--- ---- an outcome taken apart
-
-module _ {A : Type 0} (f : Refusal) (v : A) where
-  -- a value was given: there is no refusal, and it is the value
-  pub gave : (w : A) → gives w ≡ outcome f v → (isNone f ≡ true) × (w ≡ v)
-  gave w e = go (isNone f) refl e
-    where
-      go : (t : Bool) → isNone f ≡ t → gives w ≡ pick t (gives v) (refuses f) → (isNone f ≡ true) × (w ≡ v)
-      go true q h = (q, cc)
-      go false q h = let z : _≡_ {A = ℕ} 0 1 = cc in absurd (omega arith)
-
-  -- a refusal was given: it is the one
-  pub refused : (g : Refusal) → refuses g ≡ outcome f v → (isNone f ≡ false) × (g ≡ f)
-  refused g e = go (isNone f) refl e
-    where
-      go : (t : Bool) → isNone f ≡ t → refuses g ≡ pick t (gives v) (refuses f) → (isNone f ≡ false) × (g ≡ f)
-      go true q h = let z : _≡_ {A = ℕ} 0 1 = cc in absurd (omega arith)
-      go false q h = (q, cc)
-
-  -- nothing refused, no refusal
-  pub no-refusal : isNone f ≡ true → (g : Refusal) → refuses g ≡ outcome f v → ⊥
-  no-refusal n g e = false≢true (sym (refused g e .0) ∙ n)
 
 -- ---- refusals that the planner's leave out
 

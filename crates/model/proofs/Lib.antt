@@ -18,3 +18,4 @@ pub mod Request
 pub mod Needed
 pub mod Peak
 pub mod Refusals
+pub mod Outcome

@@ -1,13 +1,14 @@
 -- Answers that look sensible and that the promises refuse, each on a request of document 01.
-use mathlib.Core.Path.{_≡_, sym, _∙_}
+use mathlib.Core.Path.{_≡_, refl, sym, _∙_}
 use mathlib.Core.List.{List, [], _∷_}
 use Prim.Native.Nat.{ℕ}
 use native.Mathlib.Omega.{arith}
 use Rattle.model.specs.declared.Refusal.{Refusal}
 use Rattle.model.specs.Request.{request}
-use Rattle.model.specs.Refusals.{Outcome, gives, refuses}
+use Rattle.model.specs.Refusals.{planRefusal, neededRefusal}
 use Rattle.model.specs.Frames.{reserve, largest, budget, plan, requirement, peak}
 use Rattle.model.specs.Plan.{framesOf, planOf, openPlan, neededOf}
+use Rattle.model.proofs.Outcome.{gave, no-refusal}
 use Rattle.planner.specs.declared.plan.PlanAnswer.{PlanAnswer}
 use Rattle.planner.specs.declared.plan.PlanAnswer.the-variants as plan-answer
 use Rattle.planner.specs.declared.needed.NeededAnswer.the-variants as needed-answer
@@ -41,23 +42,20 @@ fixed-plan-refused bs x y r s p q =
 pub unwritten-refused : (r : PlanAnswer) → PlanSays 9 0 0 (1 ∷ 2 ∷ []) (7 ∷ 7 ∷ []) (7 ∷ 7 ∷ []) r → ⊥
 unwritten-refused r p = heads 7 1 (7 ∷ []) (2 ∷ []) (λ q. omega arith) (written (7 ∷ 7 ∷ []) 7 7 r p)
 
--- a refusal is no value
-no-refusal : {A : Type 0} (f : Refusal) (v : A) → refuses f ≡ gives v → ⊥
-no-refusal f v p = let z : _≡_ {A = ℕ} 0 1 = cc in omega arith
-
 -- a refusal where there is a plan, whatever its number and P
 pub refusal-refused : (bs : List ℕ) (x y : ℕ) (f : Refusal) → PlanSays 9 0 0 (1 ∷ 2 ∷ []) (x ∷ y ∷ []) bs (plan-answer.Refused f) → ⊥
-refusal-refused bs x y f p = no-refusal f tt (p .answer)
+refusal-refused bs x y f p = no-refusal (planRefusal (request 9 0 0 (1 ∷ 2 ∷ [])) 2) tt refl f (p .answer)
 
 -- start plus all harvest as the needed capacity of harvest 1, 2, which is 0
 pub all-energy-refused : NeededSays 0 0 (1 ∷ 2 ∷ []) (needed-answer.Capacity 3) → ⊥
 unfolding neededOf openPlan plan framesOf budget largest reserve peak requirement
-all-energy-refused p = other 3 0 (λ q. omega arith) (p .answer)
-  where
-    other : (a b : ℕ) → (a ≡ b → ⊥) → gives a ≡ gives b → ⊥
-    other a b h q = h (cc)
+all-energy-refused p =
+    let q = request 0 0 0 (1 ∷ 2 ∷ []) in
+    let e : _≡_ {A = ℕ} 3 0 = gave (neededRefusal q) (neededOf q) 3 (p .answer) .1 in
+    omega arith
 
 -- a refusal where there is a needed capacity
 pub needed-refusal-refused : (f : Refusal) → NeededSays 0 0 (1 ∷ 2 ∷ []) (needed-answer.Refused f) → ⊥
-unfolding neededOf openPlan plan framesOf budget largest reserve peak requirement
-needed-refusal-refused f p = no-refusal f 0 (p .answer)
+needed-refusal-refused f p =
+    let q = request 0 0 0 (1 ∷ 2 ∷ []) in
+    no-refusal (neededRefusal q) (neededOf q) refl f (p .answer)
