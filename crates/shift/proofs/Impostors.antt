@@ -1,104 +1,158 @@
 -- Impostors of acceptance condition 3 on shifts: the promises refuse their answers. Short and 20 only where their conditions hold, for
--- every shift; then, on the listing's shift with frame 1 recorded, the first plan kept, and every refusal.
+-- every shift; then, on the listing's shift with frame 1 recorded, the first plan kept, zeros, one fixed plan, and every refusal.
 use mathlib.Core.Path.{_≡_, refl, sym, ap, _∙_}
-use mathlib.Core.Bool.{Bool, true, false, not}
-use mathlib.Core.List.{List, [], _∷_}
+use mathlib.Core.Bool.{true, false, not}
+use mathlib.Core.List.{List, [], _∷_, _++_}
 use Prim.Native.Nat.{ℕ, suc, _+_, _-_, _<_}
 use native.Mathlib.Omega.{arith}
 use lib.Dec.{eqb, ltb}
-use lib.ListN.{length, getD, drop}
+use lib.ListN.{length, getD, take, drop}
+use lib.Seq.{length-take-le, drop-at}
 use borrow.Author.Tests.{eq-eqb, eqb-true, ltb-true}
 use Rattle.model.specs.declared.Refusal.{Refusal}
-use Rattle.model.specs.Choice.{pick}
-use Rattle.model.specs.Request.{request, mostEnergy}
-use Rattle.model.specs.Refusals.{refusal, isNone, wrongLength, harvestOverLimit, gives, refuses, outcome}
+use Rattle.model.specs.Request.{Request, request, mostEnergy}
+use Rattle.model.specs.Refusals.{refusal, isNone, firstOf, wrongLength, harvestOverLimit, startRefusal}
+use Rattle.model.specs.Charge.{feasible}
 use Rattle.model.specs.Frames.{reserve, largest, budget, plan}
 use Rattle.model.specs.Plan.{framesOf, planOf}
+use Rattle.model.proofs.Outcome.{gave, refused, no-refusal}
 use Rattle.shift.specs.declared.Shift.{Shift}
+use Rattle.shift.specs.declared.StartAnswer.the-variants as start
 use Rattle.shift.specs.declared.RecordAnswer.the-variants as recording
+use Rattle.shift.specs.declared.RestAnswer.{RestAnswer}
 use Rattle.shift.specs.declared.RestAnswer.the-variants as rest
 use Rattle.shift.specs.Shift.{started, isShift, notShift, allRecorded, useTooGreat, recordRefusal, recordedBy}
-use Rattle.shift.specs.Rest.{endingOf, restRequest, restRefusal}
-use Rattle.shift.specs.Says.{RecordSays, RestSays}
+use Rattle.shift.specs.Rest.{endingOf, restRequest, restRefusal, restBudgets, partRefusal, writtenFrom}
+use Rattle.shift.specs.Says.{StartSays, RecordSays, RestSays, PartSays}
 use Rattle.shift.proofs.First as first
-
--- an outcome that gives a value gives that value
-given-is : {A : Type 0} (f : Refusal) (v w : A) → gives v ≡ outcome f w → v ≡ w
-given-is f v w e = go (isNone f) e
-  where
-    go : (t : Bool) → gives v ≡ pick t (gives w) (refuses f) → v ≡ w
-    go true d = cc
-    go false d = let z : _≡_ {A = ℕ} 0 1 = cc in absurd (omega arith)
 
 -- short only where the rest misses its end charge even with budgets 0, and by what it misses
 pub short-only : (s : Shift) (hs b b′ : List ℕ) (m : ℕ) → RestSays s hs b b′ (rest.Short m) → (mostEnergy (restRequest s hs) < s .end) × (m ≡ s .end - mostEnergy (restRequest s hs))
 short-only s hs b b′ m p =
     let q = restRequest s hs in
-    let e = given-is (restRefusal s hs (length b)) (record { short = true; missing = m }) (endingOf q) (p .answer) in
+    let e = gave (restRefusal s hs (length b)) (endingOf q) (record { short = true; missing = m }) (p .answer) .1 in
     (ltb-true (mostEnergy q) (s .end) (sym (ap (λ x. x .short) e)), ap (λ x. x .missing) e)
 
--- an outcome that refuses gives that refusal
-refused-is : {A : Type 0} (f g : Refusal) (w : A) → refuses f ≡ outcome g w → f ≡ g
-refused-is f g w e = go (isNone g) e
-  where
-    go : (t : Bool) → refuses f ≡ pick t (gives w) (refuses g) → f ≡ g
-    go true d = let z : _≡_ {A = ℕ} 0 1 = cc in absurd (omega arith)
-    go false d = cc
+-- 20 comes only where every frame is recorded, if nothing else on the list of refusals has that number
+all-recorded :
+    (k n : ℕ) (fs gs : List Refusal) → first.Without 20 fs → first.Without 20 gs → firstOf (fs ++ (allRecorded k n ∷ gs)) .number ≡ 20 → n ≡ k
+all-recorded k n fs gs v w e =
+    eqb-true n k
+    (first.tested 20 (eqb n k) (refusal 20 0) refl
+    (first.only-at 20 fs (allRecorded k n) gs refl v w (eq-eqb (firstOf (fs ++ (allRecorded k n ∷ gs)) .number) 20 e)))
+
+-- 22 and 7 are other numbers
+shift-not-20 : (s : Shift) → eqb (notShift s .number) 20 ≡ false
+shift-not-20 s = first.test-without 20 (not (isShift s)) (refusal 22 0) refl refl
+
+length-not-20 : (k n : ℕ) → eqb (wrongLength k n .number) 20 ≡ false
+length-not-20 k n = first.test-without 20 (not (eqb n k)) (refusal 7 0) refl refl
 
 -- 20 at recording only where every frame is recorded
 pub record-20-only : (s : Shift) (h u : ℕ) (f : Refusal) (t : Shift) → RecordSays s h u (recording.Refused f t) → f .number ≡ 20 → s .recorded ≡ s .frames
 record-20-only s h u f t p e =
-    let k = s .frames in
     let n = s .recorded in
     let x = s .charge in
-    let d = refused-is f (recordRefusal s h u) (recordedBy s h u) (p .answer) in
-    eqb-true n k
-    (first.tested 20 (eqb n k) (refusal 20 0) refl
-    (first.only-at 20 (notShift s ∷ []) (allRecorded k n) (harvestOverLimit (suc n) (h ∷ []) ∷ useTooGreat x h u ∷ []) refl
-    (first.test-without 20 (not (isShift s)) (refusal 22 0) refl refl, tt)
+    let d = refused (recordRefusal s h u) (recordedBy s h u) f (p .answer) .1 in
+    all-recorded (s .frames) n (notShift s ∷ []) (harvestOverLimit (suc n) (h ∷ []) ∷ useTooGreat x h u ∷ [])
+    (shift-not-20 s, tt)
     (first.harvest-without 20 (suc n) (h ∷ []) refl refl, (first.test-without 20 (ltb (x + h) u) (refusal 21 (u - (x + h))) refl refl, tt))
-    (eq-eqb (recordRefusal s h u .number) 20 (ap (λ (g : Refusal). g .number) (sym d) ∙ e))))
+    (ap (λ (g : Refusal). g .number) (sym d) ∙ e)
 
 -- 20 at planning only where every frame is recorded
 pub rest-20-only : (s : Shift) (hs b b′ : List ℕ) (f : Refusal) → RestSays s hs b b′ (rest.Refused f) → f .number ≡ 20 → s .recorded ≡ s .frames
 rest-20-only s hs b b′ f p e =
     let k = s .frames in
     let n = s .recorded in
-    let d = refused-is f (restRefusal s hs (length b)) (endingOf (restRequest s hs)) (p .answer) in
-    eqb-true n k
-    (first.tested 20 (eqb n k) (refusal 20 0) refl
-    (first.only-at 20 (notShift s ∷ wrongLength k (length hs) ∷ wrongLength k (length b) ∷ []) (allRecorded k n) (harvestOverLimit (suc n) (drop n hs) ∷ []) refl (
-      first.test-without 20 (not (isShift s)) (refusal 22 0) refl refl,
-      (
-        first.test-without 20 (not (eqb (length hs) k)) (refusal 7 0) refl refl,
-        (first.test-without 20 (not (eqb (length b) k)) (refusal 7 0) refl refl, tt),
-      ),
-    )
+    let d = refused (restRefusal s hs (length b)) (endingOf (restRequest s hs)) f (p .answer) .1 in
+    all-recorded k n (notShift s ∷ wrongLength k (length hs) ∷ wrongLength k (length b) ∷ []) (harvestOverLimit (suc n) (drop n hs) ∷ [])
+    (shift-not-20 s, (length-not-20 k (length hs), (length-not-20 k (length b), tt)))
     (first.harvest-without 20 (suc n) (drop n hs) refl refl, tt)
-    (eq-eqb (restRefusal s hs (length b) .number) 20 (ap (λ (g : Refusal). g .number) (sym d) ∙ e))))
+    (ap (λ (g : Refusal). g .number) (sym d) ∙ e)
 
--- the listing's harvests, its first plan, and its shift with frame 1 recorded: harvest 1, use 3
+-- 20 for the rest's part only where every frame is recorded
+pub part-20-only : (s : Shift) (b part : List ℕ) (at part-at : ℕ × ℕ) (p : ℕ) → PartSays s b part at part-at 20 p → s .recorded ≡ s .frames
+part-20-only s b part at part-at p says =
+    let k = s .frames in
+    all-recorded k (s .recorded) (notShift s ∷ wrongLength k (length b) ∷ []) []
+    (shift-not-20 s, (length-not-20 k (length b), tt)) tt (sym (says .number-is))
+
+-- the listing's request, its first plan, and its shift with frame 1 recorded: harvest 1, use 3
 abbrev pub harvests : List ℕ
 harvests = 6 ∷ 4 ∷ 0 ∷ 0 ∷ 5 ∷ 5 ∷ []
+
+abbrev pub listed : Request
+listed = request 5 2 2 harvests
 
 abbrev pub first-plan : List ℕ
 first-plan = 4 ∷ 3 ∷ 3 ∷ 2 ∷ 4 ∷ 4 ∷ []
 
 abbrev pub after-one : Shift
-after-one = recordedBy (started (request 5 2 2 harvests)) 1 3
+after-one = recordedBy (started listed) 1 3
 
--- the first plan kept for the whole shift is no answer
-pub not-first-plan : RestSays after-one harvests first-plan first-plan rest.Planned → ⊥
+-- another forecast for it, with no harvest in frame 2
+abbrev pub fewer-harvests : List ℕ
+fewer-harvests = 6 ∷ 0 ∷ 0 ∷ 0 ∷ 5 ∷ 5 ∷ []
+
+-- planning by six harvests that are not refused writes the rest's budgets behind the budget of frame 1, into any list of six
+rest-is :
+    (hs b b′ : List ℕ) (a : RestAnswer) → isNone (restRefusal after-one hs 6) ≡ true → length b ≡ 6 → RestSays after-one hs b b′ a →
+    drop 1 b′ ≡ restBudgets (restRequest after-one hs)
+rest-is hs b b′ a n l p =
+    let q = restRequest after-one hs in
+    let t : isNone (restRefusal after-one hs (length b)) ≡ true = ap (λ (k : ℕ). isNone (restRefusal after-one hs k)) l ∙ n in
+    ap (drop 1) (p .budgets ∙ first.picked (isNone (restRefusal after-one hs (length b))) (writtenFrom 1 b (restBudgets q)) b t)
+    ∙ drop-at (take 1 b) (restBudgets q) 1 (length-take-le 1 b (omega arith))
+
+-- by the listing's harvests they are 2, 1, 1, 4, 4
+rest-listed : (b b′ : List ℕ) (a : RestAnswer) → length b ≡ 6 → RestSays after-one harvests b b′ a → drop 1 b′ ≡ 2 ∷ 1 ∷ 1 ∷ 4 ∷ 4 ∷ []
 unfolding planOf framesOf plan budget largest reserve
-not-first-plan p = let e : _≡_ {A = ℕ} 3 2 = ap (λ (l : List ℕ). getD l 1 0) (p .budgets) in omega arith
+rest-listed b b′ a l p = rest-is harvests b b′ a refl l p
 
--- nor is any short
-pub not-short : (b′ : List ℕ) (m : ℕ) → RestSays after-one harvests first-plan b′ (rest.Short m) → ⊥
-not-short b′ m p = let e = short-only after-one harvests first-plan b′ m p .0 in omega arith
+-- and by the other forecast 0, 0, 0, 4, 4
+rest-fewer : (b b′ : List ℕ) (a : RestAnswer) → length b ≡ 6 → RestSays after-one fewer-harvests b b′ a → drop 1 b′ ≡ 0 ∷ 0 ∷ 0 ∷ 4 ∷ 4 ∷ []
+unfolding planOf framesOf plan budget largest reserve
+rest-fewer b b′ a l p = rest-is fewer-harvests b b′ a refl l p
 
--- nor any refusal, of planning or of a recording that the store can serve
-pub not-refused : (b′ : List ℕ) (f : Refusal) → RestSays after-one harvests first-plan b′ (rest.Refused f) → ⊥
-not-refused b′ f p = let d = p .answer in let z : _≡_ {A = ℕ} 0 1 = cc in omega arith
+-- so the first plan kept for the whole shift is no answer, whatever list of six was lent
+pub not-first-plan : (b b′ : List ℕ) (a : RestAnswer) → length b ≡ 6 → RestSays after-one harvests b b′ a → drop 1 b′ ≡ drop 1 first-plan → ⊥
+not-first-plan b b′ a l p z = let e : _≡_ {A = ℕ} 3 2 = ap (λ (xs : List ℕ). getD xs 0 0) (sym z ∙ rest-listed b b′ a l p) in omega arith
 
+-- budgets 0 from the next frame on would be feasible
+pub zeros-feasible : feasible (restRequest after-one harvests) (0 ∷ 0 ∷ 0 ∷ 0 ∷ 0 ∷ []) ≡ true
+zeros-feasible = refl
+
+-- but they are no answer
+pub not-zeros : (b b′ : List ℕ) (a : RestAnswer) → length b ≡ 6 → RestSays after-one harvests b b′ a → drop 1 b′ ≡ 0 ∷ 0 ∷ 0 ∷ 0 ∷ 0 ∷ [] → ⊥
+not-zeros b b′ a l p z = let e : _≡_ {A = ℕ} 0 2 = ap (λ (xs : List ℕ). getD xs 0 0) (sym z ∙ rest-listed b b′ a l p) in omega arith
+
+-- the same budgets from the next frame on for both forecasts, one fixed plan, are none
+pub not-fixed :
+    (b b′ c c′ : List ℕ) (x y : RestAnswer) → length b ≡ 6 → length c ≡ 6 → RestSays after-one harvests b b′ x →
+    RestSays after-one fewer-harvests c c′ y → drop 1 b′ ≡ drop 1 c′ → ⊥
+not-fixed b b′ c c′ x y l m p q z =
+    let e : _≡_ {A = ℕ} 2 0 = ap (λ (xs : List ℕ). getD xs 0 0) (sym (rest-listed b b′ x l p) ∙ (z ∙ rest-fewer c c′ y m q)) in
+    omega arith
+
+-- short is none, whatever is said to be missing
+pub not-short : (b b′ : List ℕ) (m : ℕ) → RestSays after-one harvests b b′ (rest.Short m) → ⊥
+not-short b b′ m p = let e = short-only after-one harvests b b′ m p .0 in omega arith
+
+-- a refusal to start by the listing's request is none, whatever its number and P
+pub not-refused-start : (f : Refusal) → StartSays listed (start.Refused f) → ⊥
+not-refused-start f p = no-refusal (startRefusal listed) (started listed) refl f (p .answer)
+
+-- nor is one of a recording that the store can serve
 pub not-refused-record : (f : Refusal) (t : Shift) → RecordSays after-one 4 2 (recording.Refused f t) → ⊥
-not-refused-record f t p = let d = p .answer in let z : _≡_ {A = ℕ} 0 1 = cc in omega arith
+not-refused-record f t p = no-refusal (recordRefusal after-one 4 2) (recordedBy after-one 4 2) refl f (p .answer)
+
+-- nor one of planning the rest with any list of six lent
+pub not-refused : (b b′ : List ℕ) (f : Refusal) → length b ≡ 6 → RestSays after-one harvests b b′ (rest.Refused f) → ⊥
+not-refused b b′ f l p =
+    no-refusal (restRefusal after-one harvests (length b)) (endingOf (restRequest after-one harvests))
+    (ap (λ (n : ℕ). isNone (restRefusal after-one harvests n)) l) f (p .answer)
+
+-- nor one of the rest's part of any list of six: its number is 0
+pub not-refused-part :
+    (b part : List ℕ) (at part-at : ℕ × ℕ) (number p : ℕ) → length b ≡ 6 → PartSays after-one b part at part-at number p → number ≡ 0
+not-refused-part b part at part-at number p l says = says .number-is ∙ ap (λ (n : ℕ). partRefusal after-one n .number) l
