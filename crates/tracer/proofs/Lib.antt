@@ -3,3 +3,4 @@ pub mod Frame
 pub mod Frames
 pub mod Search
 pub mod Meaning
+pub mod Impostors

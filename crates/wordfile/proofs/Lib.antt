@@ -7,3 +7,4 @@ pub mod Written
 pub mod Refused
 pub mod ReadsBack
 pub mod Broken
+pub mod Impostors
