@@ -6,10 +6,10 @@ ghost use lib.ListN.{length};
 ghost use Rattle.model.specs.Limits.{maxFrames};
 ghost use Rattle.listing.specs.Says.{Wrote};
 ghost use Rattle.figures_text.specs.Show.{harvestLines, shown};
-use listing::lines::put_frame;
-use listing::lines::put_refused;
-use listing::text::put_byte;
-use listing::text::put_number;
+use listing::put_byte;
+use listing::put_frame;
+use listing::put_number;
+use listing::put_refused;
 use wordfile::ReadAnswer;
 use wordfile::read;
 

@@ -21,8 +21,8 @@ pub enum GradeAnswer {
 pub fn grade(budgets: &[u32]) -> GradeAnswer
     ensures { λ r. ⌜ GradeSays (now (budgets .entry)) r ⌝ }
 {
-    let f = request::frames::frames_refusal(budgets.len());
-    if !request::refusals::is_none(f) {
+    let f = request::frames_refusal(budgets.len());
+    if !request::is_none(f) {
         return GradeAnswer::Refused(f);
     }
     let a = lists::list_worth(0, budgets);

@@ -1,10 +1,10 @@
 // The capacity that a request needs.
 ghost use Rattle.planner.specs.Says.{NeededSays};
-use pace::number::greater;
-use pace::peak::peak_charge;
-use request::entries::needed_refusal;
-use request::refusals::is_none;
-use request::sums::sum;
+use pace::greater;
+use pace::peak_charge;
+use request::is_none;
+use request::needed_refusal;
+use request::sum;
 
 // The needed capacity, or the refusal of the request.
 pub enum NeededAnswer {

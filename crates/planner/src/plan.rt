@@ -1,9 +1,9 @@
 // The plan of a request.
 ghost use Rattle.planner.specs.Says.{PlanSays};
-use pace::plan::plan_into;
-use request::entries::plan_refusal;
-use request::refusals::is_none;
-use request::sums::sum;
+use pace::plan_into;
+use request::is_none;
+use request::plan_refusal;
+use request::sum;
 
 // The budgets are the plan, or the request is refused and the budgets keep their values.
 pub enum PlanAnswer {

@@ -7,8 +7,8 @@ ghost use Rattle.model.specs.Refusals.{isNone};
 ghost use Rattle.shift.specs.Shift.{recordRefusal, recordedBy};
 ghost use Rattle.shift.specs.Says.{StartSays, RecordSays, RestSays, PartSays};
 use model::Refusal;
-use pace::plan::plan_into;
-use request::refusals::is_none;
+use pace::plan_into;
+use request::is_none;
 
 mod clear;
 mod frame;
@@ -52,7 +52,7 @@ pub enum RestAnswer {
 pub fn start(capacity: u32, start: u32, end: u32, harvest: &[u32]) -> StartAnswer
     ensures { λ r. ⌜ StartSays (request capacity start end (now (harvest .entry))) r ⌝ }
 {
-    let refusal = request::entries::start_refusal(capacity, start, end, harvest);
+    let refusal = request::start_refusal(capacity, start, end, harvest);
     if !is_none(refusal) {
         return StartAnswer::Refused(refusal);
     }
@@ -114,7 +114,7 @@ pub fn plan_rest(shift: Shift, harvest: &[u32], budgets: &mut [u32]) -> RestAnsw
     let charge = shift.charge as u64;
     let end = shift.end as u64;
     let rest = &harvest[from..];
-    let most = charge + request::sums::sum(rest);
+    let most = charge + request::sum(rest);
     if most < end {
         clear::clear(&mut budgets[from..]);
         return RestAnswer::Short(end - most);

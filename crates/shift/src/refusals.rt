@@ -8,11 +8,11 @@ use crate::Shift;
 use crate::state::is_shift;
 use model::Refusal;
 use model::limits::MAX_HARVEST;
-use request::figures::harvest_refusal;
-use request::frames::length_refusal;
-use request::refusals::first_of;
-use request::refusals::is_none;
-use request::refusals::refuse_if;
+use request::first_of;
+use request::harvest_refusal;
+use request::is_none;
+use request::length_refusal;
+use request::refuse_if;
 
 // Refusal 22.
 pub fn shift_refusal(s: Shift) -> Refusal

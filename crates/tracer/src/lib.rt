@@ -26,8 +26,8 @@ pub fn trace(
 {
     let n = budgets.len();
     let m = charges.len();
-    let f = request::entries::trace_refusal(capacity, start, end, harvest, n, m);
-    if !request::refusals::is_none(f) {
+    let f = request::trace_refusal(capacity, start, end, harvest, n, m);
+    if !request::is_none(f) {
         return TraceAnswer::Refused(f);
     }
     recurrence::fill(capacity, start, harvest, budgets, charges);

@@ -1,11 +1,9 @@
 // Word files: a request as 32-bit words, read into lent lists and written into a lent list of bytes.
-pub mod form;
-pub mod reader;
+mod form;
+mod reader;
 mod word;
-pub mod writer;
+mod writer;
 
-pub use form::Form;
-pub use form::Role;
 pub use reader::Header;
 pub use reader::ReadAnswer;
 pub use reader::read;

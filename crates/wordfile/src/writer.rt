@@ -11,10 +11,10 @@ ghost use Rattle.wordfile.specs.Says.{WriteSays};
 use crate::word::build;
 use crate::word::put_word;
 use model::Refusal;
-use request::figures::figures_refusal;
-use request::frames::frames_refusal;
-use request::refusals::first_of;
-use request::refusals::refuse_if;
+use request::figures_refusal;
+use request::first_of;
+use request::frames_refusal;
+use request::refuse_if;
 
 // What writing a file answers.
 pub enum WriteAnswer {
