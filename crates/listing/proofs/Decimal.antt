@@ -42,7 +42,8 @@ one-more n k l r =
         let e : 10 ^ suc (k - 1) ≡ 10 ^ (k - 1) * 10 = pow-suc 10 (k - 1) in
         rw q (omega arith)
 
-places-in : (f n : ℕ) → n ≤ f → Fewest 10 1 n (placesIn f n)
+-- looked for often enough, they are the fewest
+pub places-in : (f n : ℕ) → n ≤ f → Fewest 10 1 n (placesIn f n)
 places-in zero n l = (omega arith, omega arith, λ h. absurd (omega arith))
 places-in (suc f) n l = go (ltb n 10) refl (λ g. places-in f (n / 10) g)
   where
@@ -65,7 +66,7 @@ digits-part n k xs a e =
     rw z (e ∙ digits-are n k a)
 
 -- so many digits are so long
-digits-length : (b k n : ℕ) → length (digits b k n) ≡ k
+pub digits-length : (b k n : ℕ) → length (digits b k n) ≡ k
 digits-length b zero n = refl
 digits-length b (suc k) n =
     let i = digits-length b k (n / b) in

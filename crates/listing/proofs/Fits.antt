@@ -23,7 +23,7 @@ use Rattle.request.proofs.Within.{PlanWithin, plan-within}
 use Rattle.wordfile.specs.File.{requestIn, readRefusal}
 use Rattle.listing.specs.Decimal.{decimal}
 use Rattle.listing.specs.Text.{listingBytes, space, lineEnd, framesLabel, capacityLabel, neededLabel, worthLabel, refusedLabel, firstLine, frameLine, frameLines, worthLine, refusedLine, framesText, budgetsText, requestText, listing}
-use Rattle.listing.specs.Says.{Wrote, ListSays}
+use Rattle.listing.specs.Says.{Wrote}
 use Rattle.listing.proofs.Decimal.{decimal-length}
 use Rattle.listing.proofs.Short.{Short, plan-short, read-short}
 use Rattle.listing.proofs.Written.{wrote-whole}
@@ -153,7 +153,3 @@ whole-listing s o o′ n l w = wrote-whole (listing s) o o′ n (at-most (length
   where
     at-most : (a b : ℕ) → a ≤ listingBytes → listingBytes ≤ b → a ≤ b
     at-most a b p q = omega arith
-
--- and what listing a file promises follows from what was written
-pub list-says : (s o o′ : List ℕ) (n : ℕ) → Wrote (listing s) o o′ n → ListSays s o o′ n
-list-says s o o′ n w = record { text = w; whole = λ l. whole-listing s o o′ n l w }

@@ -1,4 +1,5 @@
--- Laws of text written on, of decimal digits, of the frames' lines, of the answers that the listing shows, and of its length.
+-- Laws of text written on, of decimal digits, of the frames' lines, of the answers that the listing shows, of its length, of what can be
+-- read from it, and of how much of a file it depends on.
 pub mod Written
 pub mod Decimal
 pub mod FrameLines
@@ -6,3 +7,6 @@ pub mod Answers
 pub mod Cases
 pub mod Short
 pub mod Fits
+pub mod Parse
+pub mod Means
+pub mod Start

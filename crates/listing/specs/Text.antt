@@ -72,9 +72,13 @@ abbrev pub framesText : Request → List ℕ → List ℕ
 framesText q bs =
     frameLines 1 bs (charges q bs) ++ worthLine (grade (houseCurve 0) bs) (grade (houseCurve 1) bs) (grade (houseCurve 2) bs)
 
+-- the listing that shows a number as the needed capacity, and budgets
+abbrev pub shows : Request → ℕ → List ℕ → List ℕ
+shows q c bs = firstLine (frameCount q) (q .capacity) c ++ framesText q bs
+
 -- the listing of a request that is not refused, with its budgets
 abbrev pub budgetsText : Request → List ℕ → List ℕ
-budgetsText q bs = firstLine (frameCount q) (q .capacity) (neededOf q) ++ framesText q bs
+budgetsText q bs = shows q (neededOf q) bs
 
 -- the listing of a request: its plan, or its refusal
 abbrev pub requestText : Request → List ℕ

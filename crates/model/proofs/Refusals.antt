@@ -15,17 +15,18 @@ use Rattle.model.specs.Refusals.{none, refusal, isNone, refuseIf, firstO
 use Rattle.model.proofs.Order.{le-or-lt}
 
 -- a refusal whose number is not 9
-abbrev NotNine : Refusal → Type 0
+abbrev pub NotNine : Refusal → Type 0
 NotNine f = f .number ≡ 9 → ⊥
 
-abbrev NoneNine : List Refusal → Type 0
+-- no refusal of a list has number 9
+abbrev pub NoneNine : List Refusal → Type 0
 NoneNine [] = Unit {0}
 NoneNine (f ∷ fs) = NotNine f × NoneNine fs
 
-none-not-nine : NotNine none
+pub none-not-nine : NotNine none
 none-not-nine p = omega arith
 
-refuse-not-nine : (t : Bool) (n : ℕ) → (n ≡ 9 → ⊥) → NotNine (refuseIf t n)
+pub refuse-not-nine : (t : Bool) (n : ℕ) → (n ≡ 9 → ⊥) → NotNine (refuseIf t n)
 refuse-not-nine true n h = h
 refuse-not-nine false n h = none-not-nine
 
@@ -41,7 +42,7 @@ harvest-not-nine k (h ∷ hs) = go (ltb maxHarvest h) (harvest-not-nine (suc k) 
 reach-not-nine : (r : Request) → r .end ≤ mostEnergy r → NotNine (outOfReach r)
 reach-not-nine r h = rw (le-ltb (mostEnergy r) (r .end) h) none-not-nine
 
-first-not-nine : (fs : List Refusal) → NoneNine fs → NotNine (firstOf fs)
+pub first-not-nine : (fs : List Refusal) → NoneNine fs → NotNine (firstOf fs)
 first-not-nine [] a = none-not-nine
 first-not-nine (f ∷ fs) a = go (isNone f) (first-not-nine fs (a .1))
   where

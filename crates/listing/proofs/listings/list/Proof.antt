@@ -1,5 +1,5 @@
 -- `listing::listings::list` meets its contract.
-use Rattle.listing.proofs.Fits as law
+use Rattle.listing.proofs.Means as law
 use borrow.Author.Needs.{needs}
 use Rattle.listing.proofs.listings.list.Statement.{statement}
 use Rattle.listing.proofs.listings.list.Tie as tie
