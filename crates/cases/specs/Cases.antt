@@ -3,6 +3,7 @@ use mathlib.Core.Path.{_≡_}
 use mathlib.Core.List.{List, [], _∷_}
 use lib.IntN.{ℤ, pos, negsuc}
 use Prim.Native.Nat.{ℕ, _+_}
+use Prim.Native.String.{String}
 use lib.ListN.{length}
 use Rattle.model.specs.declared.Refusal.{Refusal}
 use Rattle.model.specs.Request.{Request, request, frameCount}
@@ -15,6 +16,8 @@ use Rattle.shift.specs.declared.Shift.{Shift}
 use Rattle.shift.specs.Shift.{started, recordRefusal, recordedBy}
 use Rattle.shift.specs.Rest.{restRequest, restRefusal, restBudgets}
 use Rattle.wordfile.specs.File.{fileWords, fileBytes, requestIn, readRefusal}
+use Rattle.listing.specs.Text as text
+use Rattle.cases.specs.Ascii.{ascii}
 
 pub data Case : Type 0 where
   -- a request and its plan
@@ -37,6 +40,8 @@ pub data Case : Type 0 where
   rests : Shift → List ℕ → List ℕ → Case
   -- a request and the words of its file
   words : Request → List ℕ → Case
+  -- a request and what the plan program prints of its file
+  prints : Request → String → Case
 
 abbrev pub Holds : Case → Type 0
 Holds (plans r bs) = (planRefusal r (frameCount r) ≡ none) × (planOf r ≡ bs)
@@ -50,6 +55,7 @@ Holds (records s h u x l) =
 Holds (unrecorded s h u f) = recordRefusal s h u ≡ f
 Holds (rests s hs bs) = (restRefusal s hs (length hs) ≡ none) × (restBudgets (restRequest s hs) ≡ bs)
 Holds (words r ws) = (fileWords r ≡ ws) × (readRefusal (fileBytes r) (frameCount r) ≡ none) × (requestIn (fileBytes r) ≡ r)
+Holds (prints r t) = text.listing (fileBytes r) ≡ ascii t
 
 abbrev pub AllHold : List Case → Type 0
 AllHold [] = Unit {0}
@@ -65,7 +71,8 @@ four = started (request 5 4 0 (3 ∷ []))
 
 abbrev pub cases : List Case
 cases =
-    plans (listing 5) (4 ∷ 3 ∷ 3 ∷ 2 ∷ 4 ∷ 4 ∷ [])
+    prints (listing 5) "frames 6 capacity 5 needed 6\n1 4 4\n2 3 5\n3 3 2\n4 2 0\n5 4 1\n6 4 2\nworth 320 480 100\n"
+    ∷ plans (listing 5) (4 ∷ 3 ∷ 3 ∷ 2 ∷ 4 ∷ 4 ∷ [])
     ∷ charged (listing 5) (4 ∷ 5 ∷ 2 ∷ 0 ∷ 1 ∷ 2 ∷ [])
     ∷ needs (listing 5) 6
     ∷ worths (4 ∷ 3 ∷ 3 ∷ 2 ∷ 4 ∷ 4 ∷ []) 320 480 100
@@ -78,6 +85,7 @@ cases =
     ∷ needs (request 10 10 0 (0 ∷ [])) 10
     ∷ plans (request 8 3 7 (4 ∷ [])) (0 ∷ [])
     ∷ refused (request 8 3 8 (4 ∷ [])) (refusal 9 1)
+    ∷ prints (request 8 3 8 (4 ∷ [])) "refused 9 1\n"
     ∷ plans (request 0 0 0 (5 ∷ [])) (5 ∷ [])
     ∷ traces (listing 22) (4 ∷ 4 ∷ 4 ∷ 4 ∷ 2 ∷ 2 ∷ []) (pos 4 ∷ pos 4 ∷ pos 0 ∷ negsuc 3 ∷ negsuc 0 ∷ pos 2 ∷ []) (below-zero 4)
     ∷ records four 3 7 0 0

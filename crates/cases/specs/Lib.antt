@@ -1,2 +1,3 @@
 -- Document 01's cases worked by hand.
+pub mod Ascii
 pub mod Cases

@@ -4,7 +4,6 @@ pub mod Written
 pub mod Decimal
 pub mod FrameLines
 pub mod Answers
-pub mod Cases
 pub mod Short
 pub mod Fits
 pub mod Parse
