@@ -104,6 +104,28 @@ check '11,921 bytes of no file' 'refused 2 0' "$(head -c 11921 /dev/zero | tr '\
 check 'an endless input' 'refused 2 0' "$(timeout 20 $bin/plan </dev/zero)"
 check 'an input in small pieces' "$listing" "$($bin/words <examples/listing.txt | while IFS= read -r -d '' -n 1 b || [ -n "$b" ]; do if [ -n "$b" ]; then printf '%s' "$b"; else printf '\0'; fi; done | plan)"
 
+# reads and writes that fail, and such as move few bytes at a time: told on standard error, and after a failed read nothing is printed
+$bin/words <examples/listing.txt >"$folder/listing"
+cc -shared -fPIC -O1 -Wall -Wextra -Werror -o "$folder/faults.so" tests/faults.c || echo 'tests/faults.c: not compiled'
+plan_out() { env "$@" LD_PRELOAD="$folder/faults.so" $bin/plan <"$folder/listing" 2>/dev/null; }
+plan_err() { env "$@" LD_PRELOAD="$folder/faults.so" $bin/plan <"$folder/listing" 2>&1 >/dev/null; }
+check 'reads and writes of 7 bytes' "$listing" "$(plan_out PIECE=7)"
+check 'reads and writes of 7 bytes: nothing told' '' "$(plan_err PIECE=7)"
+check 'reads and writes of 1 byte' "$listing" "$(plan_out PIECE=1)"
+check 'the first read fails' '' "$(plan_out READS=0)"
+check 'the first read fails: told' 'plan: standard input: Input/output error' "$(plan_err READS=0)"
+check 'the fifth read fails' '' "$(plan_out PIECE=7 READS=4)"
+check 'the fifth read fails: told' 'plan: standard input: Input/output error' "$(plan_err PIECE=7 READS=4)"
+check 'the read for the end fails' '' "$(plan_out READS=1)"
+check 'the read for the end fails: told' 'plan: standard input: Input/output error' "$(plan_err READS=1)"
+check 'the first write fails: told' 'plan: standard output: Input/output error' "$(plan_err WRITES=0)"
+check 'the third write fails: told' 'plan: standard output: Input/output error' "$(plan_err PIECE=7 WRITES=2)"
+check 'a directory' '' "$($bin/plan <"$folder" 2>/dev/null)"
+check 'a directory: told' 'plan: standard input: Is a directory' "$($bin/plan <"$folder" 2>&1 >/dev/null)"
+check 'a closed input: told' 'plan: standard input: Bad file descriptor' "$($bin/plan 2>&1 >/dev/null <&-)"
+check 'a full disk: told' 'plan: standard output: No space left on device' "$($bin/plan <"$folder/listing" 2>&1 >/dev/full)"
+check 'a closed output: told' 'plan: standard output: Bad file descriptor' "$($bin/plan <"$folder/listing" 2>&1 >&-)"
+
 # text to words, and what is no figures
 check 'comments, tabs and carriage returns' '0900000000000000000000000100004002000040020000c0' "$(printf '#a 7\n9\t0#x\r\n0 \r\n1\n#end 5\n2' | words_out)"
 check 'a letter' 'refused 30 4' "$(printf '9 0 x 1' | words_err)"

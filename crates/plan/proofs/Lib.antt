@@ -1,0 +1,2 @@
+-- Laws of the input that was read.
+pub mod Read

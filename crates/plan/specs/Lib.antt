@@ -1,0 +1,2 @@
+-- What the program says of the input that it read.
+pub mod Read
