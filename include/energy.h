@@ -2,10 +2,11 @@
  *
  * A request has a capacity, a start charge, an end charge and a harvest for each of K frames, in whole watt-hours.
  * After a frame with harvest h and budget e the charge is the smaller of the capacity and (charge before + h - e);
- * what exceeds the capacity is lost. A plan is a budget for each frame: feasible, best for every concave reward table
- * at once, and of those the one that takes more at the first difference.
+ * what exceeds the capacity is lost. A reward table is good if it never falls and is concave: each step up is no greater
+ * than the one before it. A plan is a budget for each frame: feasible, best for every good reward table at once, and of
+ * those the one that takes more at the first difference.
  *
- * Every answer begins with `number`, 0 if the call was accepted, and `p`, 0 unless named:
+ * Every struct answered begins with `number`, 0 if the call was accepted, and `p`, 0 unless named:
  *
  *    1  no frames
  *    2  more than ENERGY_MAX_FRAMES frames, or a file above ENERGY_MAX_FILE_BYTES
@@ -21,6 +22,7 @@
  *   22  a shift record that isn't one
  *
  * A refused call alters no list, and the other fields of its answer are 0, save where a comment below says otherwise.
+ * `energy_listing` answers no struct and refuses nothing: it writes the refusal of a file as text.
  *
  * A list is a pointer and then its length in entries. It must be aligned and valid for that length, and not null even
  * where the length is 0. A list that a call writes must not overlap another list of the same call. No call keeps a
@@ -141,8 +143,8 @@ struct EnergyPlanAnswer energy_plan(uint32_t capacity, uint32_t start, uint32_t 
                                     const uint32_t *harvest, size_t harvest_length,
                                     uint32_t *budgets, size_t budgets_length);
 
-/* The least capacity, at least start and end, with which every concave reward table is served as well as with
- * unlimited storage. Refuses 1, 2, 3, 6, 9. */
+/* The least capacity, at least start and end, with which every good reward table is served as well as with unlimited
+ * storage. Refuses 1, 2, 3, 6, 9. */
 struct EnergyNeededAnswer energy_needed(uint32_t start, uint32_t end,
                                         const uint32_t *harvest, size_t harvest_length);
 

@@ -1,0 +1,52 @@
+#!/usr/bin/env bash
+# The documents against the files: every name in a READING table of names stands in the file beside it, every inner function is public,
+# and the outputs in README are those of the programs. The last line is 'N passed, M failed'.
+set -u
+cd "$(dirname "$0")/.." || exit 2
+passed=0
+failed=0
+
+# verdict STATUS WHAT
+verdict() {
+    if [ "$1" -eq 0 ]; then passed=$((passed + 1)); else failed=$((failed + 1)); echo "FAILED: $2"; fi
+}
+
+# stands NAME FILE: a definition, theorem or function of that name, or a field R.f of a record
+stands() {
+    local name=$1 file=crates/$2
+    [ -f "$file" ] || return 1
+    case $name in
+    *.*) awk -v record="${name%.*}" -v field="${name#*.}" '
+            /^[^ ]/ { inside = ($0 ~ "^pub record " record " ") }
+            inside && index($0, "  pub " field " :") == 1 { found = 1 }
+            END { exit !found }' "$file" ;;
+    *) case $file in
+        *.rt) grep -Eq "^ *(pub )?fn $name\(" "$file" ;;
+        *) grep -Eq "^ *(abbrev |unfoldable )?pub (record |data )?$name( |\$)" "$file" ;;
+        esac ;;
+    esac
+}
+
+# rows whose last cell is one file: the names in the cell before it
+while IFS='|' read -r _ _ names file _; do
+    [[ $file =~ ^\ \`([a-z_]+/[A-Za-z_/]+\.(antt|rt))\`\ $ ]] || continue
+    file=${BASH_REMATCH[1]}
+    for name in $(grep -o '`[^`]*`' <<<"$names" | tr -d '`'); do
+        stands "$name" "$file"
+        verdict $? "READING: no $name in $file"
+    done
+done <docs/READING.md
+
+# the inner functions that READING lists are those that the crates hand on, save their entries
+inner=$(sed -n '/^### Inner functions/,/^## /p' docs/READING.md | awk -F'|' '/^\| `/ { crate = $2; gsub(/[` ]/, "", crate); n = split($3, names, ","); for (i = 1; i <= n; i++) { gsub(/[` ]/, "", names[i]); print crate, names[i] } }' | sort)
+handed_on=$(for crate in request pace listing; do sed -n "s/^pub use [a-z]*::\([a-z_]*\);\$/$crate \1/p" crates/$crate/src/lib.rt; done | grep -v '^listing list' | sort)
+[ "$inner" = "$handed_on" ]
+verdict $? "READING: inner functions differ from what request, pace and listing hand on"
+
+for program in plan day; do
+    [[ $(cat README.md) == *"$(cat crates/$program/stdout)"* ]]
+    verdict $? "README: not what $program prints"
+done
+
+printf '%d passed, %d failed\n' "$passed" "$failed"
+[ "$failed" -eq 0 ] && [ "$passed" -gt 50 ]
