@@ -85,6 +85,7 @@ module _ (s : Shift) (b part : List ℕ) (at part-at : ℕ × ℕ) (number p : �
             ∙ sym (ap (λ (t : Bool). partFlat (pick t (gives (partOf s)) (refuses f))) e);
         within = omega arith;
         contents = ap (λ (n : ℕ). take n b) l ∙ sym (ap (λ (t : Bool). pick t (drop (s .recorded) b) []) e);
+        rest = λ z. absurd (k z);
       }
 
   -- the part begins at the next frame and goes on to the last
@@ -102,4 +103,5 @@ module _ (s : Shift) (b part : List ℕ) (at part-at : ℕ × ℕ) (number p : �
         contents = ap (λ (n : ℕ). take n (drop (s .recorded) b)) (ap length z)
             ∙ (take-all (length (drop (s .recorded) b)) (drop (s .recorded) b) (omega arith)
             ∙ sym (ap (λ (t : Bool). pick t (drop (s .recorded) b) []) e));
+        rest = λ z. (omega (arith, o .fits, o .more, l), w .rest e .1);
       }

@@ -29,6 +29,13 @@ earliest-is q bs xs ys EndTooLow w k = absurd (omega arith)
 earliest-is q bs xs ys (BelowZero n) w k = w .earliest n refl
 earliest-is q bs xs ys (Refused f) w k = absurd (omega arith)
 
+-- only "end too low" has verdict 1
+is-too-low : (a : TraceAnswer) → traceFlat (said a) .verdict ≡ 1 → a ≡ EndTooLow
+is-too-low Feasible k = absurd (omega arith)
+is-too-low EndTooLow k = refl
+is-too-low (BelowZero n) k = absurd (omega arith)
+is-too-low (Refused f) k = absurd (omega arith)
+
 -- tracing
 pub trace-flat : (q : Request) (bs : List ℕ) (xs ys : List ℤ) (a : TraceAnswer) → TraceSays q bs xs ys a →
     EnergyTraceSays q bs xs ys (traceFlat (said a))
@@ -43,4 +50,5 @@ trace-flat q bs xs ys a w =
       feasible = λ k. ((λ l. w .feasible (none k) .0 (sure k l)), (λ l. ap (λ (b : TraceAnswer). traceFlat (said b) .verdict) (w .feasible (none k) .1 l)));
       feasible-charges = λ k l. w .feasible-charges (sure k l);
       earliest = earliest-is q bs xs ys a w;
+      too-low = λ k. w .too-low (is-too-low a k);
     }

@@ -2,7 +2,7 @@
 use mathlib.Core.Path.{_≡_}
 use mathlib.Core.Bool.{true, false}
 use mathlib.Core.List.{List, []}
-use Prim.Native.Nat.{ℕ, _+_, _-_, _≤_}
+use Prim.Native.Nat.{ℕ, _+_, _-_, _≤_, _<_}
 use lib.ListN.{length, take, drop}
 use Rattle.model.specs.Choice.{pick}
 use Rattle.model.specs.Request.{Request}
@@ -96,3 +96,5 @@ pub record EnergyPartSays (s : Shift) (b : List ℕ) (r : EnergyPartAnswer) : Ty
   pub within : r .from + r .length ≤ length b
   -- it holds the budgets of the frames not yet recorded; nothing when refused
   pub contents : take (r .length) (drop (r .from) b) ≡ pick (isNone (partRefusal s (length b))) (drop (s .recorded) b) []
+  -- with number 0 it goes on to the last frame, and there is a frame to come
+  pub rest : r .number ≡ 0 → (r .from + r .length ≡ length b) × (0 < r .length)

@@ -1,16 +1,17 @@
 -- What `energy_trace` promises.
 use mathlib.Core.Path.{_≡_}
 use mathlib.Core.Logic.{_↔_}
-use mathlib.Core.Bool.{true}
+use mathlib.Core.Bool.{true, false}
 use mathlib.Core.List.{List, map}
-use Prim.Native.Nat.{ℕ, suc}
+use Prim.Native.Nat.{ℕ, suc, _<_}
 use lib.IntN.{ℤ, pos}
-use lib.ListN.{length}
+use lib.Signed.{leZ, nonNeg}
+use lib.ListN.{length, getD}
 use Rattle.model.specs.Choice.{pick}
 use Rattle.model.specs.Request.{Request}
 use Rattle.model.specs.Charge as C
 use Rattle.model.specs.Refusals.{Outcome, outcome, isNone, traceRefusal}
-use Rattle.model.specs.Trace.{Verdict, below-zero, end-too-low, is-feasible, trace, verdict, EarliestBelow}
+use Rattle.model.specs.Trace.{Verdict, below-zero, end-too-low, is-feasible, lastFrom, trace, verdict, EarliestBelow}
 use Rattle.energy.specs.Flat.{numberOf, pOf, valueOr}
 use Rattle.energy.specs.declared.trace.EnergyTraceAnswer.{EnergyTraceAnswer}
 
@@ -43,3 +44,5 @@ pub record EnergyTraceSays (q : Request) (bs : List ℕ) (xs ys : List ℤ) (r :
   pub feasible-charges : r .number ≡ 0 → r .verdict ≡ 0 → ys ≡ map pos (C.charges q bs)
   -- a frame named is the earliest below zero
   pub earliest : r .verdict ≡ 2 → (i : ℕ) × (r .frame ≡ suc i) × EarliestBelow i ys
+  -- verdict 1: none but the last is below zero, and the last is below the end charge
+  pub too-low : r .verdict ≡ 1 → ((j : ℕ) → suc j < length ys → nonNeg (getD ys j (pos 0)) ≡ true) × (leZ (pos (q .end)) (lastFrom (pos (q .start)) ys) ≡ false)
