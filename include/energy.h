@@ -21,7 +21,8 @@
  *   21  use greater than charge plus harvest; p is the excess
  *   22  a shift record that isn't one
  *
- * A refused call alters no list, and the other fields of its answer are 0, save where a comment below says otherwise.
+ * A refused call alters no list, and the other fields of its answer are 0, whatever is said of them below, save the shift
+ * of a refused recording, which is the one given.
  * `energy_listing` answers no struct and refuses nothing: it writes the refusal of a file as text.
  *
  * A list is a pointer and then its length in entries. It must be aligned and valid for that length, and not null even

@@ -42,6 +42,10 @@ inner=$(sed -n '/^### Inner functions/,/^## /p' docs/READING.md | awk -F'|' '/^\
 handed_on=$(for crate in request pace listing; do sed -n "s/^pub use [a-z]*::\([a-z_]*\);\$/$crate \1/p" crates/$crate/src/lib.rt; done | grep -v '^listing list' | sort)
 [ "$inner" = "$handed_on" ]
 verdict $? "READING: inner functions differ from what request, pace and listing hand on"
+for crate in request pace listing wordfile; do
+    ! grep -q '^pub mod' crates/$crate/src/lib.rt
+    verdict $? "$crate hands on a whole module"
+done
 
 for program in plan day; do
     [[ $(cat README.md) == *"$(cat crates/$program/stdout)"* ]]

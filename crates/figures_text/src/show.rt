@@ -6,10 +6,10 @@ ghost use lib.ListN.{length};
 ghost use Rattle.model.specs.Limits.{maxFrames};
 ghost use Rattle.listing.specs.Says.{Wrote};
 ghost use Rattle.figures_text.specs.Show.{harvestLines, shown};
+use listing::list_refusal;
 use listing::put_byte;
 use listing::put_frame;
 use listing::put_number;
-use listing::put_refused;
 use wordfile::ReadAnswer;
 use wordfile::read;
 
@@ -42,7 +42,7 @@ fn show_file(file: &[u8], harvest: &mut [u32], out: &mut [u8]) -> usize
             let at = put_frame(capacity as u64, start as u64, end as u64, out, 0);
             put_harvests(&harvest[0..k], out, at)
         }
-        ReadAnswer::Refused(f) => put_refused(f, out, 0),
+        ReadAnswer::Refused(f) => list_refusal(f, out),
     }
 }
 

@@ -1,6 +1,7 @@
 -- What can be read from a listing is right: its budgets are the plan, its number is the needed capacity, and after "refused 9" nothing is
--- feasible.
-use mathlib.Core.Path.{_≡_, refl, sym, ap, _∙_}
+-- feasible. Equal texts show equal figures (Parse.antt), and the text was made of the right ones.
+use mathlib.Core.Path.{_≡_, refl, sym, ap, subst, _∙_}
+use mathlib.Core.Logic.{inl, inr}
 use mathlib.Core.Bool.{Bool, true, false}
 use mathlib.Core.List.{List, [], _∷_, _++_}
 use Prim.Native.Nat.{ℕ, _*_}
@@ -12,7 +13,7 @@ use Rattle.model.specs.Choice.{pick}
 use Rattle.model.specs.Limits.{maxFrames, maxFileBytes}
 use Rattle.model.specs.Request.{Request, frameCount}
 use Rattle.model.specs.Refusals.{refusal, none, isNone, refuseIf, tooManyFrames, planRefusal}
-use Rattle.model.specs.Charge.{feasible, charges}
+use Rattle.model.specs.Charge.{frameEnd, feasible, chargesFrom, charges}
 use Rattle.model.specs.Curves.{houseCurve, grade}
 use Rattle.model.specs.Reward.{IsPlan, IsNeeded}
 use Rattle.model.specs.Plan.{planOf, neededOf}
@@ -20,43 +21,75 @@ use Rattle.model.proofs.Needed.{needed-is}
 use Rattle.model.proofs.Refusals.{NotNine, none-not-nine, refuse-not-nine, first-not-nine, plan-nine}
 use Rattle.model.proofs.Request.{plan-is, plan-feasible, out-of-reach}
 use Rattle.model.proofs.Trace.{feasible-length}
-use Rattle.request.proofs.Within.{plan-within}
+use Rattle.request.proofs.Within.{PlanWithin, plan-within}
 use Rattle.wordfile.specs.Words.{wordsOf}
 use Rattle.wordfile.specs.Form.{formOf}
 use Rattle.wordfile.specs.File.{malformed, framesIn, requestIn, readRefusal}
 use Rattle.wordfile.specs.declared.form.Form.{Form}
 use Rattle.wordfile.specs.declared.form.Form.the-variants.{Closed, Broken}
-use Rattle.listing.specs.Text.{worthLine, refusedLine, framesText, shows, budgetsText, requestText, listing}
-use Rattle.listing.specs.Says.{Wrote, ListMeans, ListSays}
+use Rattle.listing.specs.Text.{frameLines, worthLine, refusedLine, Figures, showing, framesText, budgetsText, requestText, listing}
+use Rattle.listing.specs.Says.{Wrote, Right, Shows, ListMeans, ListSays}
 use Rattle.listing.proofs.Fits.{whole-listing}
-use Rattle.listing.proofs.Parse.{first-same, frames-same, refused-same}
+use Rattle.listing.proofs.Parse.{first-same, frames-same, worthRest, worth-same, refused-same}
 
--- a refusal begins with another letter than budgets do
-refusal-no-budgets : (f : Refusal) (q : Request) (c : ℕ) (bs : List ℕ) → refusedLine f ≡ shows q c bs → ⊥
-refusal-no-budgets f q c bs e = let z : _≡_ {A = ℕ} 114 102 = ap (λ (t : List ℕ). getD t 0 0) e in omega arith
+-- a refusal begins with another letter than figures do
+refusal-no-figures : (f : Refusal) (g : Figures) → refusedLine f ≡ showing g → ⊥
+refusal-no-figures f g e = let z : _≡_ {A = ℕ} 114 102 = ap (λ (t : List ℕ). getD t 0 0) e in omega arith
 
--- what the listing of a request that is not refused shows
+-- as many charges as harvests and budgets
+charges-length : (c x : ℕ) (hs bs : List ℕ) → length bs ≡ length hs → length (chargesFrom c x hs bs) ≡ length bs
+charges-length c x [] [] l = refl
+charges-length c x [] (b ∷ bs) l = absurd (omega arith)
+charges-length c x (h ∷ hs) [] l = absurd (omega arith)
+charges-length c x (h ∷ hs) (b ∷ bs) l = let i = charges-length c (frameEnd c x h b .charge) hs bs (omega arith) in omega arith
+
+-- a request that is not refused: its listing shows the plan's figures, so all figures that it shows are right
 module _ (q : Request) (ok : isNone (planRefusal q (frameCount q)) ≡ true) where
-  pub shown-plan : (c : ℕ) (bs : List ℕ) → length bs ≡ frameCount q → budgetsText q (planOf q) ≡ shows q c bs → IsPlan q bs
-  shown-plan c bs l e =
-      let w = plan-within q (frameCount q) ok in
-      let p = plan-is q (w .figures .start-fits) (w .figures .end-fits) (w .reach) in
-      let k = feasible-length q (planOf q) (p .is-feasible) in
-      let t = first-same (frameCount q) (q .capacity) (neededOf q) c (framesText q (planOf q)) (framesText q bs) e .1 in
-      let b = frames-same (q .capacity) (q .start) (q .start) 1 (q .harvest) (planOf q) bs
-      (worthLine (grade (houseCurve 0) (planOf q)) (grade (houseCurve 1) (planOf q)) (grade (houseCurve 2) (planOf q)))
-      (worthLine (grade (houseCurve 0) bs) (grade (houseCurve 1) bs) (grade (houseCurve 2) bs)) k l t in
-      rw b at p
+  within : PlanWithin q (frameCount q)
+  within = plan-within q (frameCount q) ok
 
-  pub shown-needed : (c : ℕ) (bs : List ℕ) → budgetsText q (planOf q) ≡ shows q c bs → IsNeeded q c
-  shown-needed c bs e =
-      let w = plan-within q (frameCount q) ok in
-      let n = first-same (frameCount q) (q .capacity) (neededOf q) c (framesText q (planOf q)) (framesText q bs) e .0 in
-      let p = needed-is q (w .reach) in
-      rw n at p
+  is-plan : IsPlan q (planOf q)
+  is-plan = plan-is q (within .figures .start-fits) (within .figures .end-fits) (within .reach)
 
-  pub shown-no-refusal : (f : Refusal) → budgetsText q (planOf q) ≡ refusedLine f → ⊥
-  shown-no-refusal f e = refusal-no-budgets f q (neededOf q) (planOf q) (sym e)
+  -- the plan's figures
+  abbrev plan-figures : Figures
+  plan-figures =
+      record {
+        frames = frameCount q;
+        capacity = q .capacity;
+        needed = neededOf q;
+        budgets = planOf q;
+        charges = charges q (planOf q);
+        worth0 = grade (houseCurve 0) (planOf q);
+        worth1 = grade (houseCurve 1) (planOf q);
+        worth2 = grade (houseCurve 2) (planOf q);
+      }
+
+  plan-shown : Shows (budgetsText q (planOf q)) plan-figures
+  plan-shown = (charges-length (q .capacity) (q .start) (q .harvest) (planOf q) (feasible-length q (planOf q) (is-plan .is-feasible)), refl)
+
+  shown-right : (g : Figures) → Shows (budgetsText q (planOf q)) g → Right q g
+  shown-right g s =
+      let b = planOf q in
+      let a = first-same (frameCount q) (q .capacity) (neededOf q) (g .frames) (g .capacity) (g .needed) (framesText q b)
+      (frameLines 1 (g .budgets) (g .charges) ++ worthLine (g .worth0) (g .worth1) (g .worth2)) (s .1) in
+      let f = frames-same 1 b (charges q b) (g .budgets) (g .charges)
+      (worthRest (grade (houseCurve 0) b) (grade (houseCurve 1) b) (grade (houseCurve 2) b)) (worthRest (g .worth0) (g .worth1) (g .worth2)) (plan-shown .0) (s .0) (a .3) in
+      let w = worth-same (grade (houseCurve 0) b) (grade (houseCurve 1) b) (grade (houseCurve 2) b) (g .worth0) (g .worth1) (g .worth2) (f .2) in
+      let z = f .0 in
+      record {
+        frames = sym (a .0);
+        capacity = sym (a .1);
+        needed = subst (IsNeeded q) (a .2) (needed-is q (within .reach));
+        plan = subst (IsPlan q) z is-plan;
+        after = sym (f .1) ∙ ap (charges q) z;
+        worth0 = sym (w .0) ∙ ap (grade (houseCurve 0)) z;
+        worth1 = sym (w .1) ∙ ap (grade (houseCurve 1)) z;
+        worth2 = sym (w .2) ∙ ap (grade (houseCurve 2)) z;
+      }
+
+  shown-no-refusal : (f : Refusal) → budgetsText q (planOf q) ≡ refusedLine f → ⊥
+  shown-no-refusal f e = refusal-no-figures f plan-figures (sym e)
 
 -- the listing of a request means what it shows
 request-means : (q : Request) → ListMeans q (requestText q)
@@ -68,14 +101,14 @@ request-means q = go (isNone f) refl
     go : (t : Bool) → isNone f ≡ t → ListMeans q (pick t (budgetsText q (planOf q)) (refusedLine f))
     go true ok =
         record {
-          plan = shown-plan q ok;
-          needed = shown-needed q ok;
+          form = inl (plan-figures q ok, plan-shown q ok);
+          right = shown-right q ok;
           no-plan = λ p e. absurd (shown-no-refusal q ok (refusal 9 p) e);
         }
     go false k =
         record {
-          plan = λ c bs l e. absurd (refusal-no-budgets f q c bs e);
-          needed = λ c bs e. absurd (refusal-no-budgets f q c bs e);
+          form = inr (f, refl);
+          right = λ g s. absurd (refusal-no-figures f g (s .1));
           no-plan = λ p e. out-of-reach q (plan-nine q (frameCount q) (refused-same f (refusal 9 p) e));
         }
 
@@ -110,8 +143,8 @@ listing-means s = go (isNone f)
     go true = request-means q
     go false =
         record {
-          plan = λ c bs l e. absurd (refusal-no-budgets f q c bs e);
-          needed = λ c bs e. absurd (refusal-no-budgets f q c bs e);
+          form = inr (f, refl);
+          right = λ g s. absurd (refusal-no-figures f g (s .1));
           no-plan = λ p e. absurd (read-not-nine s maxFrames (refused-same f (refusal 9 p) e));
         }
 

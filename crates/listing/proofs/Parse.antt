@@ -1,4 +1,4 @@
--- A line tells its figures: two equal texts show the same numbers.
+-- A listing tells its figures: two equal texts show the same numbers.
 use mathlib.Core.Path.{_≡_, refl, sym, ap, _∙_}
 use mathlib.Core.Bool.{Bool, true, false, cond}
 use mathlib.Core.List.{List, [], _∷_, _++_, append-assoc}
@@ -10,7 +10,6 @@ use lib.ListN.{length, length-append}
 use borrow.Author.Tests.{lt-ltb}
 use Rattle.io.specs.Digits.{glyph, digits}
 use Rattle.model.specs.declared.Refusal.{Refusal}
-use Rattle.model.specs.Charge.{frameEnd, chargesFrom}
 use Rattle.listing.specs.Decimal.{placesIn, places, decimal}
 use Rattle.listing.specs.Text.{space, lineEnd, framesLabel, capacityLabel, neededLabel, refusedLabel, firstLine, frameLine, frameLines, refusedLine}
 use Rattle.listing.proofs.Decimal.{digits-length, places-in}
@@ -103,48 +102,90 @@ after-same (x ∷ a) r t e = let k : a ++ r ≡ a ++ t = cc in after-same a r t 
 
 -- ---- lines
 
--- the first line tells the needed capacity
-pub first-same : (k c n m : ℕ) (r t : List ℕ) → firstLine k c n ++ r ≡ firstLine k c m ++ t → (n ≡ m) × (r ≡ t)
-first-same k c n m r t e =
-    number-same n m 10 r t (omega arith)
-    (after-same neededLabel (decimal n ++ (10 ∷ r)) (decimal m ++ (10 ∷ t))
-    (after-same (decimal c) (neededLabel ++ (decimal n ++ (10 ∷ r))) (neededLabel ++ (decimal m ++ (10 ∷ t)))
-    (after-same capacityLabel (decimal c ++ (neededLabel ++ (decimal n ++ (10 ∷ r)))) (decimal c ++ (neededLabel ++ (decimal m ++ (10 ∷ t))))
-    (after-same (decimal k) (capacityLabel ++ (decimal c ++ (neededLabel ++ (decimal n ++ (10 ∷ r))))) (capacityLabel ++ (decimal c ++ (neededLabel ++ (decimal m ++ (10 ∷ t)))))
-    (after-same framesLabel (decimal k ++ (capacityLabel ++ (decimal c ++ (neededLabel ++ (decimal n ++ (10 ∷ r)))))) (decimal k ++ (capacityLabel ++ (decimal c ++ (neededLabel ++ (decimal m ++ (10 ∷ t))))))
-    (sym (first-long n r) ∙ (e ∙ first-long m t)))))))
+-- the first line tells its three figures
+pub first-same : (k c n k′ c′ n′ : ℕ) (r t : List ℕ) → firstLine k c n ++ r ≡ firstLine k′ c′ n′ ++ t → (k ≡ k′) × (c ≡ c′) × (n ≡ n′) × (r ≡ t)
+first-same k c n k′ c′ n′ r t e =
+    let a = number-same k k′ 32 (after-frames c n r) (after-frames c′ n′ t) (omega arith)
+    (after-same framesLabel (decimal k ++ (32 ∷ after-frames c n r)) (decimal k′ ++ (32 ∷ after-frames c′ n′ t)) (sym (first-long k c n r) ∙ (e ∙ first-long k′ c′ n′ t))) in
+    let b = number-same c c′ 32 (after-capacity n r) (after-capacity n′ t) (omega arith)
+    (after-same capacity-tail (decimal c ++ (32 ∷ after-capacity n r)) (decimal c′ ++ (32 ∷ after-capacity n′ t)) (a .1)) in
+    let d = number-same n n′ 10 r t (omega arith) (after-same needed-tail (decimal n ++ (10 ∷ r)) (decimal n′ ++ (10 ∷ t)) (b .1)) in
+    (a .0, b .0, d .0, d .1)
   where
-    first-long : (n : ℕ) (r : List ℕ) → firstLine k c n ++ r ≡ framesLabel ++ (decimal k ++ (capacityLabel ++ (decimal c ++ (neededLabel ++ (decimal n ++ (10 ∷ r))))))
-    first-long n r = simp append-assoc
+    -- the labels behind their first space
+    capacity-tail : List ℕ
+    capacity-tail = 99 ∷ 97 ∷ 112 ∷ 97 ∷ 99 ∷ 105 ∷ 116 ∷ 121 ∷ 32 ∷ []
 
--- a frame's line tells its budget
-pub frame-same : (i b c x y : ℕ) (r t : List ℕ) → frameLine i b x ++ r ≡ frameLine i c y ++ t → (b ≡ c) × (r ≡ t)
+    needed-tail : List ℕ
+    needed-tail = 110 ∷ 101 ∷ 101 ∷ 100 ∷ 101 ∷ 100 ∷ 32 ∷ []
+
+    after-capacity : ℕ → List ℕ → List ℕ
+    after-capacity n r = needed-tail ++ (decimal n ++ (10 ∷ r))
+
+    after-frames : ℕ → ℕ → List ℕ → List ℕ
+    after-frames c n r = capacity-tail ++ (decimal c ++ (32 ∷ after-capacity n r))
+
+    first-long : (k c n : ℕ) (r : List ℕ) → firstLine k c n ++ r ≡ framesLabel ++ (decimal k ++ (32 ∷ after-frames c n r))
+    first-long k c n r = simp append-assoc
+
+-- a frame's line tells its budget and its charge
+pub frame-same : (i b c x y : ℕ) (r t : List ℕ) → frameLine i b x ++ r ≡ frameLine i c y ++ t → (b ≡ c) × (x ≡ y) × (r ≡ t)
 frame-same i b c x y r t e =
     let u = after-same (decimal i ++ space) (decimal b ++ (32 ∷ (decimal x ++ (10 ∷ r)))) (decimal c ++ (32 ∷ (decimal y ++ (10 ∷ t)))) (sym (frame-long b x r) ∙ (e ∙ frame-long c y t)) in
     let v = number-same b c 32 (decimal x ++ (10 ∷ r)) (decimal y ++ (10 ∷ t)) (omega arith) u in
     let w = number-same x y 10 r t (omega arith) (v .1) in
-    (v .0, w .1)
+    (v .0, w .0, w .1)
   where
     frame-long : (b x : ℕ) (r : List ℕ) → frameLine i b x ++ r ≡ (decimal i ++ space) ++ (decimal b ++ (32 ∷ (decimal x ++ (10 ∷ r))))
     frame-long b x r = simp append-assoc
 
--- the lines of all frames tell the budgets, one for each harvest
-pub frames-same : (c x y i : ℕ) (hs bs cs : List ℕ) (r t : List ℕ) → length bs ≡ length hs → length cs ≡ length hs →
-    frameLines i bs (chargesFrom c x hs bs) ++ r ≡ frameLines i cs (chargesFrom c y hs cs) ++ t → bs ≡ cs
-frames-same c x y i [] [] [] r t l m e = refl
-frames-same c x y i [] (b ∷ bs) cs r t l m e = absurd (omega arith)
-frames-same c x y i [] [] (d ∷ cs) r t l m e = absurd (omega arith)
-frames-same c x y i (h ∷ hs) [] cs r t l m e = absurd (omega arith)
-frames-same c x y i (h ∷ hs) (b ∷ bs) [] r t l m e = absurd (omega arith)
-frames-same c x y i (h ∷ hs) (b ∷ bs) (d ∷ cs) r t l m e =
-    let x′ = frameEnd c x h b .charge in
-    let y′ = frameEnd c y h d .charge in
-    let p = frame-same i b d x′ y′ (frameLines (suc i) bs (chargesFrom c x′ hs bs) ++ r) (frameLines (suc i) cs (chargesFrom c y′ hs cs) ++ t)
-    (sym (append-assoc (frameLine i b x′) (frameLines (suc i) bs (chargesFrom c x′ hs bs)) r)
-    ∙ (e ∙ append-assoc (frameLine i d y′) (frameLines (suc i) cs (chargesFrom c y′ hs cs)) t)) in
-    let q = frames-same c x′ y′ (suc i) hs bs cs r t (omega arith) (omega arith) (p .1) in
+-- a frame's line begins with no letter
+no-letter : (ds : List ℕ) (r t : List ℕ) → AllDigits ds → ds ++ (32 ∷ r) ≡ 119 ∷ t → ⊥
+no-letter [] r t a e = let z : _≡_ {A = ℕ} 32 119 = cc in omega arith
+no-letter (d ∷ ds) r t a e = let z : d ≡ 119 = cc in omega (arith, a .1)
+
+frame-no-worth : (i b x : ℕ) (r t : List ℕ) → frameLine i b x ++ r ≡ 119 ∷ t → ⊥
+frame-no-worth i b x r t e = no-letter (decimal i) (decimal b ++ (32 ∷ (decimal x ++ (10 ∷ r)))) t (decimal-digits i) (sym long ∙ e)
+  where
+    long : frameLine i b x ++ r ≡ decimal i ++ (32 ∷ (decimal b ++ (32 ∷ (decimal x ++ (10 ∷ r)))))
+    long = simp append-assoc
+
+-- the lines of all frames tell budgets and charges, up to the last line
+pub frames-same : (i : ℕ) (bs xs cs ys : List ℕ) (r t : List ℕ) → length xs ≡ length bs → length ys ≡ length cs →
+    frameLines i bs xs ++ (119 ∷ r) ≡ frameLines i cs ys ++ (119 ∷ t) → (bs ≡ cs) × (xs ≡ ys) × (r ≡ t)
+frames-same i [] [] [] [] r t l m e = (refl, refl, cc)
+frames-same i [] (x ∷ xs) cs ys r t l m e = absurd (omega arith)
+frames-same i (b ∷ bs) [] cs ys r t l m e = absurd (omega arith)
+frames-same i [] [] [] (y ∷ ys) r t l m e = absurd (omega arith)
+frames-same i [] [] (d ∷ cs) [] r t l m e = absurd (omega arith)
+frames-same i (b ∷ bs) (x ∷ xs) [] (y ∷ ys) r t l m e = absurd (omega arith)
+frames-same i (b ∷ bs) (x ∷ xs) (d ∷ cs) [] r t l m e = absurd (omega arith)
+frames-same i [] [] (d ∷ cs) (y ∷ ys) r t l m e =
+    absurd (frame-no-worth i d y (frameLines (suc i) cs ys ++ (119 ∷ t)) r (sym (append-assoc (frameLine i d y) (frameLines (suc i) cs ys) (119 ∷ t)) ∙ sym e))
+frames-same i (b ∷ bs) (x ∷ xs) [] [] r t l m e =
+    absurd (frame-no-worth i b x (frameLines (suc i) bs xs ++ (119 ∷ r)) t (sym (append-assoc (frameLine i b x) (frameLines (suc i) bs xs) (119 ∷ r)) ∙ e))
+frames-same i (b ∷ bs) (x ∷ xs) (d ∷ cs) (y ∷ ys) r t l m e =
+    let p = frame-same i b d x y (frameLines (suc i) bs xs ++ (119 ∷ r)) (frameLines (suc i) cs ys ++ (119 ∷ t))
+    (sym (append-assoc (frameLine i b x) (frameLines (suc i) bs xs) (119 ∷ r))
+    ∙ (e ∙ append-assoc (frameLine i d y) (frameLines (suc i) cs ys) (119 ∷ t))) in
+    let q = frames-same (suc i) bs xs cs ys r t (omega arith) (omega arith) (p .2) in
     let z = p .0 in
-    cc
+    let z′ = p .1 in
+    let w = q .0 in
+    let w′ = q .1 in
+    (cc, cc, q .2)
+
+-- the last line behind its first letter tells its three sums
+abbrev pub worthRest : ℕ → ℕ → ℕ → List ℕ
+worthRest u v w = 111 ∷ 114 ∷ 116 ∷ 104 ∷ 32 ∷ (decimal u ++ (space ++ (decimal v ++ (space ++ (decimal w ++ lineEnd)))))
+
+pub worth-same : (u v w u′ v′ w′ : ℕ) → worthRest u v w ≡ worthRest u′ v′ w′ → (u ≡ u′) × (v ≡ v′) × (w ≡ w′)
+worth-same u v w u′ v′ w′ e =
+    let a = number-same u u′ 32 (decimal v ++ (32 ∷ (decimal w ++ lineEnd))) (decimal v′ ++ (32 ∷ (decimal w′ ++ lineEnd))) (omega arith)
+    (after-same (111 ∷ 114 ∷ 116 ∷ 104 ∷ 32 ∷ []) (decimal u ++ (32 ∷ (decimal v ++ (32 ∷ (decimal w ++ lineEnd))))) (decimal u′ ++ (32 ∷ (decimal v′ ++ (32 ∷ (decimal w′ ++ lineEnd))))) e) in
+    let b = number-same v v′ 32 (decimal w ++ lineEnd) (decimal w′ ++ lineEnd) (omega arith) (a .1) in
+    let c = number-same w w′ 10 [] [] (omega arith) (b .1) in
+    (a .0, b .0, c .0)
 
 -- a refusal's line tells its number
 pub refused-same : (f g : Refusal) → refusedLine f ≡ refusedLine g → f .number ≡ g .number

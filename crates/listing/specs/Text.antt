@@ -67,18 +67,31 @@ worthLine a b c = worthLabel ++ (decimal a ++ (space ++ (decimal b ++ (space ++ 
 abbrev pub refusedLine : Refusal → List ℕ
 refusedLine f = refusedLabel ++ (decimal (f .number) ++ (space ++ (decimal (f .p) ++ lineEnd)))
 
+-- the figures that a listing shows: on its first line, for each frame a budget and the charge after it, and the three sums
+pub record Figures : Type 0 where
+  pub frames : ℕ
+  pub capacity : ℕ
+  pub needed : ℕ
+  pub budgets : List ℕ
+  pub charges : List ℕ
+  pub worth0 : ℕ
+  pub worth1 : ℕ
+  pub worth2 : ℕ
+
+-- the text that shows them
+abbrev pub showing : Figures → List ℕ
+showing g =
+    firstLine (g .frames) (g .capacity) (g .needed)
+    ++ (frameLines 1 (g .budgets) (g .charges) ++ worthLine (g .worth0) (g .worth1) (g .worth2))
+
 -- the lines of budgets and the charges after them, and what the budgets are worth
 abbrev pub framesText : Request → List ℕ → List ℕ
 framesText q bs =
     frameLines 1 bs (charges q bs) ++ worthLine (grade (houseCurve 0) bs) (grade (houseCurve 1) bs) (grade (houseCurve 2) bs)
 
--- the listing that shows a number as the needed capacity, and budgets
-abbrev pub shows : Request → ℕ → List ℕ → List ℕ
-shows q c bs = firstLine (frameCount q) (q .capacity) c ++ framesText q bs
-
 -- the listing of a request that is not refused, with its budgets
 abbrev pub budgetsText : Request → List ℕ → List ℕ
-budgetsText q bs = shows q (neededOf q) bs
+budgetsText q bs = firstLine (frameCount q) (q .capacity) (neededOf q) ++ framesText q bs
 
 -- the listing of a request: its plan, or its refusal
 abbrev pub requestText : Request → List ℕ

@@ -9,7 +9,6 @@ pub use listings::list_refusal;
 
 // Inner: for figures_text, which writes on behind what it has written.
 pub use lines::put_frame;
-pub use lines::put_refused;
 pub use text::put_byte;
 pub use text::put_number;
 

@@ -1,6 +1,6 @@
 // The plan of a request, frame by frame, with the pace carried along: between two events (a full or an empty store) the
 // budgets differ by one unit at most, so only an event starts a new search. Everything here is for the entries of other
-// crates, which have checked the request; they need `plan_into` and `peak_charge`.
+// crates, which have checked the request; they need `plan_into`, `peak_charge` and `greater`.
 mod cruise;
 mod dive;
 mod frame;

@@ -1,4 +1,4 @@
-// The refusals of each entry that takes a request, in its order.
+// The refusals of planning, the needed capacity, tracing and a shift's start, each in its order.
 ghost use mathlib.Core.Path.{_≡_};
 ghost use Prim.Native.Nat.{ℕ};
 ghost use Rattle.model.specs.Request.{request};

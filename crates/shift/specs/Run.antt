@@ -168,7 +168,7 @@ pub record Moment (q : Request) (cs : List Call) (s : Shift) : Type 0 where
 
 -- demand 3 of a run ts of shift s, which was started from request q
 pub record Demand3 (q : Request) (s : Shift) (ts : List Turn) : Type 0 where
-  -- every refusal with its P, every short with its amount, every shift handed back and every budget list afterwards is the one
+  -- every refusal with its P, every short with its amount, the shift after every recording and every budget list afterwards is the one
   -- that the logbook gives for the call's own figures and lists; and none that it gives is left out
   pub tells-due : allTold ts ≡ allDue (opened q) (calls ts)
   -- 22 never comes up

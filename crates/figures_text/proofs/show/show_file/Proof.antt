@@ -46,8 +46,8 @@ put-harvests-requires c κs = search needs
 enum-known-answer-2 : tie.Need-enum-known-answer-2
 enum-known-answer-2 c = search needs
 
-put-refused-requires : tie.Need-put-refused-requires
-put-refused-requires c κs = search needs
+list-refusal-requires : tie.Need-list-refusal-requires
+list-refusal-requires c κs = search needs
 
 same-length : tie.Need-same-length
 same-length c = search needs
@@ -100,7 +100,7 @@ returns-2 c =
     (a .pre)
     (d .read .ensures)
     (g .answer2 .given .1)
-    (b .put-refused .ensures [] o (wrote-none o))
+    (b .list-refusal .ensures)
 
 pub show-file-spec : {M : Type 1} → statement M
 show-file-spec =
@@ -117,7 +117,7 @@ show-file-spec =
     part-put-harvests-end
     put-harvests-requires
     enum-known-answer-2
-    put-refused-requires
+    list-refusal-requires
     same-length
     same-length-2
     returns
