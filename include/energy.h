@@ -3,8 +3,9 @@
  * A request has a capacity, a start charge, an end charge and a harvest for each of K frames, in whole watt-hours.
  * After a frame with harvest h and budget e the charge is the smaller of the capacity and (charge before + h - e);
  * what exceeds the capacity is lost. A reward table is good if it never falls and is concave: each step up is no greater
- * than the one before it. A plan is a budget for each frame: feasible, best for every good reward table at once, and of
- * those the one that takes more at the first difference.
+ * than the one before it. Budgets, one for each frame, are feasible if none is above the charge before it plus its
+ * harvest and the last charge is at least the end charge. A plan is feasible, best for every good reward table at once,
+ * and of such budgets the one that takes more at the first difference.
  *
  * Every struct answered begins with `number`, 0 if the call was accepted, and `p`, 0 unless named:
  *
@@ -69,7 +70,8 @@ struct EnergyNeededAnswer {
 };
 
 /* verdict: ENERGY_FEASIBLE, ENERGY_END_TOO_LOW or ENERGY_BELOW_ZERO.
- * frame: with ENERGY_BELOW_ZERO the earliest frame, from 1, whose charge is below zero; otherwise 0. */
+ * frame: with ENERGY_BELOW_ZERO the earliest frame, from 1, whose charge is below zero; otherwise 0. A charge below zero
+ * after the last frame alone is ENERGY_END_TOO_LOW. */
 struct EnergyTraceAnswer {
     uint32_t number;
     uint64_t p;

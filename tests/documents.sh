@@ -27,11 +27,17 @@ stands() {
     esac
 }
 
-# rows whose last cell is one file: the names in the cell before it
-while IFS='|' read -r _ _ names file _; do
-    [[ $file =~ ^\ \`([a-z_]+/[A-Za-z_/]+\.(antt|rt))\`\ $ ]] || continue
-    file=${BASH_REMATCH[1]}
-    for name in $(grep -o '`[^`]*`' <<<"$names" | tr -d '`'); do
+# every row of a table headed 'name | file': one file, and the names in the cell before it
+named=0
+while IFS='|' read -r start _ names file _; do
+    if [ "$names|$file" = ' name | file ' ]; then named=1; continue; fi
+    [ -z "$start" ] && [ -n "$names" ] || named=0
+    [ $named -eq 1 ] && [ "$names" != --- ] || continue
+    file=$(tr -d '` ' <<<"$file")
+    found=$(grep -o '`[^`]*`' <<<"$names" | tr -d '`')
+    [ -n "$found" ]
+    verdict $? "READING: no name beside $file"
+    for name in $found; do
         stands "$name" "$file"
         verdict $? "READING: no $name in $file"
     done
@@ -39,12 +45,12 @@ done <docs/READING.md
 
 # the inner functions that READING lists are those that the crates hand on, save their entries
 inner=$(sed -n '/^### Inner functions/,/^## /p' docs/READING.md | awk -F'|' '/^\| `/ { crate = $2; gsub(/[` ]/, "", crate); n = split($3, names, ","); for (i = 1; i <= n; i++) { gsub(/[` ]/, "", names[i]); print crate, names[i] } }' | sort)
-handed_on=$(for crate in request pace listing; do sed -n "s/^pub use [a-z]*::\([a-z_]*\);\$/$crate \1/p" crates/$crate/src/lib.rt; done | grep -v '^listing list' | sort)
+handed_on=$(for crate in request pace listing wordfile; do sed -n "s/^pub use [a-z]*::\([a-z_]*\);\$/$crate \1/p" crates/$crate/src/lib.rt; done | grep -vxE 'listing (list|list_refusal)|wordfile (read|write)' | sort)
 [ "$inner" = "$handed_on" ]
-verdict $? "READING: inner functions differ from what request, pace and listing hand on"
+verdict $? "READING: inner functions differ from what request, pace, listing and wordfile hand on"
 for crate in request pace listing wordfile; do
-    ! grep -q '^pub mod' crates/$crate/src/lib.rt
-    verdict $? "$crate hands on a whole module"
+    ! grep -qE '^pub (mod|fn)|^pub use .*[{*]' crates/$crate/src/lib.rt
+    verdict $? "$crate hands on more than single names"
 done
 
 for program in plan day; do

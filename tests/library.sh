@@ -42,6 +42,8 @@ if [ -f "$library" ]; then
     [ -x "$work/header" ] || verdict 'header.c compiles' 1
     c_program examples/plan.c "$work/plan" && compare 'example in C' tests/example.out "$work/plan"
     [ -x "$work/plan" ] || verdict 'plan.c compiles' 1
+else
+    verdict "there is $library" 1
 fi
 
 printf '%d passed, %d failed\n' "$passed" "$failed"

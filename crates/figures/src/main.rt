@@ -2,7 +2,7 @@
 use libc::STDIN_FILENO;
 use libc::STDOUT_FILENO;
 
-// The figures of a file: at most 2,979 of ten digits each, one to a line.
+// The figures of a file: at most 2,979 of ten digits each.
 fn print(file: &[u8]) {
     let mut text = [0u8; 65536];
     let n = figures_text::show::show(file, &mut text);

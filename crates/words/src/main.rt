@@ -25,7 +25,7 @@ fn convert(text: &[u8]) {
     }
 }
 
-// A text that fills the list has more bytes than are read, and is refused at its last place.
+// A text that fills the list has more than 131,071 bytes, and is refused with P 131,072.
 fn main() {
     let mut text = [0u8; 131072];
     let n = io::read_full(STDIN_FILENO, &mut text);
