@@ -13,13 +13,13 @@ use Rattle.model.specs.Choice.{pick}
 use Rattle.model.specs.Limits.{maxFrames, maxFileBytes}
 use Rattle.model.specs.Request.{Request, frameCount}
 use Rattle.model.specs.Refusals.{refusal, none, isNone, refuseIf, tooManyFrames, planRefusal}
-use Rattle.model.specs.Charge.{frameEnd, feasible, chargesFrom, charges}
+use Rattle.model.specs.Charge.{frameEnd, chargesFrom, charges}
 use Rattle.model.specs.Curves.{houseCurve, grade}
 use Rattle.model.specs.Reward.{IsPlan, IsNeeded}
 use Rattle.model.specs.Plan.{planOf, neededOf}
 use Rattle.model.proofs.Needed.{needed-is}
 use Rattle.model.proofs.Refusals.{NotNine, none-not-nine, refuse-not-nine, first-not-nine, plan-nine}
-use Rattle.model.proofs.Request.{plan-is, plan-feasible, out-of-reach}
+use Rattle.model.proofs.Request.{plan-is, out-of-reach}
 use Rattle.model.proofs.Trace.{feasible-length}
 use Rattle.request.proofs.Within.{PlanWithin, plan-within}
 use Rattle.wordfile.specs.Words.{wordsOf}

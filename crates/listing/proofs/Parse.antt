@@ -1,17 +1,15 @@
 -- A listing tells its figures: two equal texts show the same numbers.
 use mathlib.Core.Path.{_≡_, refl, sym, ap, _∙_}
-use mathlib.Core.Bool.{Bool, true, false, cond}
 use mathlib.Core.List.{List, [], _∷_, _++_, append-assoc}
-use Prim.Native.Nat.{ℕ, zero, suc, _+_, _-_, _*_, _/_, _%_, _^_, _≤_, _<_}
+use Prim.Native.Nat.{ℕ, zero, suc, _+_, _/_, _%_, _^_, _≤_, _<_}
 use native.Mathlib.Omega.{arith}
 use native.Mathlib.Nat.{pow-suc}
-use lib.Dec.{ltb}
 use lib.ListN.{length, length-append}
 use borrow.Author.Tests.{lt-ltb}
 use Rattle.io.specs.Digits.{glyph, digits}
 use Rattle.model.specs.declared.Refusal.{Refusal}
 use Rattle.listing.specs.Decimal.{placesIn, places, decimal}
-use Rattle.listing.specs.Text.{space, lineEnd, framesLabel, capacityLabel, neededLabel, refusedLabel, firstLine, frameLine, frameLines, refusedLine}
+use Rattle.listing.specs.Text.{space, lineEnd, framesLabel, refusedLabel, firstLine, frameLine, frameLines, refusedLine}
 use Rattle.listing.proofs.Decimal.{digits-length, places-in}
 
 -- ---- digits

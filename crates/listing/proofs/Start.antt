@@ -1,16 +1,14 @@
 -- A file's listing depends on its first bytes alone, one more than a file may have: what is longer is refused whatever it holds.
 use mathlib.Core.Path.{_≡_, refl, sym, ap, _∙_}
-use mathlib.Core.Bool.{Bool, true}
-use mathlib.Core.List.{List, [], _∷_}
-use Prim.Native.Nat.{ℕ, suc, _+_, _≤_, _<_}
+use mathlib.Core.List.{List}
+use Prim.Native.Nat.{ℕ, _+_, _<_}
 use native.Mathlib.Omega.{arith}
 use native.Mathlib.Decide.{decLe}
 use borrow.Author.Tests.{lt-ltb}
 use lib.ListN.{length, take, length-take}
 use lib.Seq.{take-all}
-use Rattle.model.specs.Limits.{maxFrames, maxFileBytes}
+use Rattle.model.specs.Limits.{maxFileBytes}
 use Rattle.model.specs.Refusals.{refusal}
-use Rattle.wordfile.specs.File.{readRefusal}
 use Rattle.listing.specs.Text.{refusedLine, listing}
 
 -- a file above its limit is refused with 2

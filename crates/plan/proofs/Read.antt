@@ -1,7 +1,7 @@
--- The listing of what was read is the listing of the file, and what a read brought lies behind what was there.
+-- The listing of what was read is the listing of the file, and what a read brought finds room.
 use mathlib.Core.Path.{_≡_, sym, ap, subst, _∙_}
 use mathlib.Core.List.{List}
-use Prim.Native.Nat.{ℕ, _+_, _-_, _≤_, _<_}
+use Prim.Native.Nat.{ℕ, _+_, _≤_, _<_}
 use native.Mathlib.Omega.{arith}
 use lib.ListN.{length, take}
 use lib.Seq.{take-take}
@@ -18,6 +18,6 @@ listing-of-read s list n l b =
     let m : maxFileBytes + 1 ≤ length list = omega arith in
     begin-alike (take n list) s (sym (ap (take (maxFileBytes + 1)) b) ∙ take-take (maxFileBytes + 1) (length list) s m)
 
--- the bytes that were brought
+-- the bytes that were brought are no more than there was room for
 pub brought : (r : declared.Input) (n room : ℕ) → ReadWithin r room → r ≡ Bytes n → n ≤ room
 brought r n room w e = subst (λ (i : declared.Input). ReadWithin i room) e w
