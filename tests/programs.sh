@@ -1,5 +1,5 @@
 #!/usr/bin/env bash
-# The built programs plan, words and figures on accepted, refused, truncated, oversized and endless inputs.
+# The built program plan on accepted, refused, truncated, oversized and endless inputs, and with reads and writes that fail.
 # The last line is 'N passed, M failed'.
 set -u
 cd "$(dirname "$0")/.." || exit 2
@@ -9,7 +9,7 @@ failed=0
 folder=$(mktemp -d)
 trap 'rm -rf "$folder"' EXIT
 
-rt check plan words figures >"$folder/build" 2>&1 || { cat "$folder/build"; echo '0 passed, 1 failed'; exit 1; }
+rt check plan >"$folder/build" 2>&1 || { cat "$folder/build"; echo '0 passed, 1 failed'; exit 1; }
 
 # check NAME EXPECTED ACTUAL
 check() {
@@ -35,13 +35,17 @@ harvests() {
     for ((i = 0; i < $1; i++)); do word $((0x40000000 + $2)); done
 }
 
-plan() { $bin/plan; }
-figures() { $bin/figures; }
-# what words writes to standard output, as hexadecimal, and to standard error
-words_out() { $bin/words 2>/dev/null | od -An -v -tx1 | tr -d ' \n'; }
-words_err() { $bin/words 2>&1 >/dev/null; }
+# the word file of a request: file CAPACITY START END HARVEST ..
+file() {
+    local h
+    word "${@:1:3}"
+    for h in "${@:4}"; do harvests 1 "$h"; done
+    word $((0xC0000000 + $# - 3))
+}
 
-# the listing of document 01, made from text
+plan() { $bin/plan; }
+
+# the listing of document 01, and other plans
 listing='frames 6 capacity 5 needed 6
 1 4 4
 2 3 5
@@ -50,7 +54,8 @@ listing='frames 6 capacity 5 needed 6
 5 4 1
 6 4 2
 worth 320 480 100'
-check 'listing from text' "$listing" "$($bin/words <examples/listing.txt | plan)"
+file 5 2 2 6 4 0 0 5 5 >"$folder/listing"
+check 'listing' "$listing" "$(plan <"$folder/listing")"
 check 'listing, capacity 6' 'frames 6 capacity 6 needed 6
 1 3 5
 2 3 6
@@ -58,15 +63,14 @@ check 'listing, capacity 6' 'frames 6 capacity 6 needed 6
 4 3 0
 5 4 1
 6 4 2
-worth 320 480 100' "$(echo 6 2 2 6 4 0 0 5 5 | $bin/words | plan)"
+worth 320 480 100' "$(file 6 2 2 6 4 0 0 5 5 | plan)"
 check 'harvest 1, 2' 'frames 2 capacity 9 needed 0
 1 1 0
 2 2 0
-worth 48 72 15' "$(echo 9 0 0 1 2 | $bin/words | plan)"
-check 'words of harvest 1, 2' '0900000000000000000000000100004002000040020000c0' "$(echo 9 0 0 1 2 | words_out)"
+worth 48 72 15' "$(file 9 0 0 1 2 | plan)"
 check 'capacity 0' 'frames 1 capacity 0 needed 0
 1 5 0
-worth 80 120 25' "$(echo 0 0 0 5 | $bin/words | plan)"
+worth 80 120 25' "$(file 0 0 0 5 | plan)"
 
 # files that the plan program refuses
 check 'no byte' 'refused 8 0' "$(printf '' | plan)"
@@ -100,10 +104,9 @@ check '11,921 bytes' 'refused 2 0' "$( (cat "$folder/full"; printf 'x') | plan)"
 check '11,920 bytes of no file' 'refused 8 0' "$(head -c 11920 /dev/zero | tr '\0' '\377' | plan)"
 check '11,921 bytes of no file' 'refused 2 0' "$(head -c 11921 /dev/zero | tr '\0' '\377' | plan)"
 check 'an endless input' 'refused 2 0' "$(timeout 20 $bin/plan </dev/zero)"
-check 'an input in small pieces' "$listing" "$($bin/words <examples/listing.txt | while IFS= read -r -d '' -n 1 b || [ -n "$b" ]; do if [ -n "$b" ]; then printf '%s' "$b"; else printf '\0'; fi; done | plan)"
+check 'an input in small pieces' "$listing" "$(while IFS= read -r -d '' -n 1 b || [ -n "$b" ]; do if [ -n "$b" ]; then printf '%s' "$b"; else printf '\0'; fi; done <"$folder/listing" | plan)"
 
 # reads and writes that fail, and such as move few bytes at a time: told on standard error, and after a failed read nothing is printed
-$bin/words <examples/listing.txt >"$folder/listing"
 cc -shared -fPIC -O1 -Wall -Wextra -Werror -o "$folder/faults.so" tests/faults.c || echo 'tests/faults.c: not compiled'
 plan_out() { env "$@" LD_PRELOAD="$folder/faults.so" $bin/plan <"$folder/listing" 2>/dev/null; }
 plan_err() { env "$@" LD_PRELOAD="$folder/faults.so" $bin/plan <"$folder/listing" 2>&1 >/dev/null; }
@@ -123,34 +126,6 @@ check 'a directory: told' 'plan: standard input: Is a directory' "$($bin/plan <"
 check 'a closed input: told' 'plan: standard input: Bad file descriptor' "$($bin/plan 2>&1 >/dev/null <&-)"
 check 'a full disk: told' 'plan: standard output: No space left on device' "$($bin/plan <"$folder/listing" 2>&1 >/dev/full)"
 check 'a closed output: told' 'plan: standard output: Bad file descriptor' "$($bin/plan <"$folder/listing" 2>&1 >&-)"
-
-# text to words, and what is no figures
-check 'comments, tabs and carriage returns' '0900000000000000000000000100004002000040020000c0' "$(printf '#a 7\n9\t0#x\r\n0 \r\n1\n#end 5\n2' | words_out)"
-check 'a letter' 'refused 30 4' "$(printf '9 0 x 1' | words_err)"
-check 'a letter: no file' '' "$(printf '9 0 x 1' | words_out)"
-check 'a letter in a figure' 'refused 30 1' "$(printf '9a 0 0 1' | words_err)"
-check 'a minus sign' 'refused 30 2' "$(printf '9 -1 0 1' | words_err)"
-check 'a figure above 32 bits' 'refused 30 9' "$(printf '4294967296 0 0 1' | words_err)"
-check 'the largest figure of 32 bits' 'refused 3 0' "$(printf '4294967295 0 0 1' | words_err)"
-check 'an empty text' 'refused 30 0' "$(printf '' | words_err)"
-check 'two figures' 'refused 30 4' "$(printf '9 0\n' | words_err)"
-check 'three figures' 'refused 1 0' "$(printf '9 0 0\n' | words_err)"
-check 'harvest 400,001 as text' 'refused 6 2' "$(printf '9 0 0 400000 400001' | words_err)"
-check '2,976 harvests as text' "$(od -An -v -tx1 "$folder/full" | tr -d ' \n')" "$( (echo 9 0 0; yes 1 | head -n 2976) | words_out)"
-check '2,977 harvests as text' 'refused 2 0' "$( (echo 9 0 0; yes 1 | head -n 2977) | words_err)"
-check '9,000 harvests as text' 'refused 2 0' "$( (echo 9 0 0; yes 1 | head -n 9000) | words_err)"
-check 'an endless text' 'refused 30 131072' "$(yes 1 | timeout 20 $bin/words 2>&1 >/dev/null)"
-check 'an endless text: no file' '' "$(yes 1 | timeout 20 $bin/words 2>/dev/null)"
-
-# words to text
-check 'figures of harvest 1, 2' '9 0 0
-1
-2' "$(word 9 0 0 0x40000001 0x40000002 0xC0000002 | figures)"
-check 'figures of the largest values' '1073741823 0 1073741823
-1073741823' "$(word 0x3FFFFFFF 0 0x3FFFFFFF 0x7FFFFFFF 0xC0000001 | figures)"
-check 'figures of a broken file' 'refused 8 5' "$(word 9 0 0 0x40000001 0x40000002 0xC0000003 | figures)"
-check 'figures of a long file' 'refused 2 0' "$(timeout 20 $bin/figures </dev/zero)"
-check 'figures and back' "$(od -An -v -tx1 "$folder/full" | tr -d ' \n')" "$(figures <"$folder/full" | words_out)"
 
 printf '%d passed, %d failed\n' "$passed" "$failed"
 [ "$failed" -eq 0 ]
