@@ -8,7 +8,7 @@ ghost use Rattle.model.specs.Charge.{feasible};
 ghost use Rattle.model.specs.Limits.{maxFrames};
 ghost use Rattle.model.specs.Request.{request};
 ghost use Rattle.model.specs.Refusals.{isNone, planRefusal};
-ghost use Rattle.listing.specs.Text.{framesText, budgetsText, requestText, listing, refusedLine};
+ghost use Rattle.listing.specs.Text.{framesText, budgetsText, requestText, listing};
 ghost use Rattle.listing.specs.Says.{Wrote, ListSays};
 use crate::frames::put_frames;
 use crate::lines::put_first;
@@ -16,7 +16,6 @@ use crate::lines::put_refused;
 use crate::lines::put_worth;
 use grader::GradeAnswer;
 use grader::grade;
-use model::Refusal;
 use planner::needed::NeededAnswer;
 use planner::needed::needed;
 use planner::plan::PlanAnswer;
@@ -143,11 +142,4 @@ pub fn list(file: &[u8], out: &mut [u8]) -> usize
     let mut budgets = [0u32; 2976];
     let mut charges = [0i64; 2976];
     list_file(file, &mut harvest, &mut budgets, &mut charges, out)
-}
-
-// Writes the line of a refusal into the lent list, and answers how many bytes it wrote.
-pub fn list_refusal(refusal: Refusal, out: &mut [u8]) -> usize
-    ensures { λ r. ⌜ Wrote (refusedLine refusal) (now (out .entry)) (now (out .exit)) r ⌝ }
-{
-    put_refused(refusal, out, 0)
 }
