@@ -23,16 +23,6 @@ firstOf-append (x ∷ xs) ys = go (isNone x) refl (firstOf-append xs ys)
     go true e ih = ih
     go false e ih = sym (pick-by (isNone x) false (firstOf ys) x e)
 
--- a first refusal that is none has P 0 as well
-pub firstOf-none : (fs : List Refusal) → isNone (firstOf fs) ≡ true → firstOf fs ≡ none
-firstOf-none [] e = refl
-firstOf-none (f ∷ fs) e = go (isNone f) refl e (firstOf-none fs)
-  where
-    go : (t : Bool) → isNone f ≡ t → isNone (pick t (firstOf fs) f) ≡ true
-        → (isNone (firstOf fs) ≡ true → firstOf fs ≡ none) → pick t (firstOf fs) f ≡ none
-    go true q h ih = ih h
-    go false q h ih = absurd (false≢true (sym q ∙ h))
-
 -- where the first refusal is none, the head and the tail are
 pub firstOf-all : (f : Refusal) (fs : List Refusal) → isNone (firstOf (f ∷ fs)) ≡ true → (isNone f ≡ true) × (isNone (firstOf fs) ≡ true)
 firstOf-all f fs e = go (isNone f) refl e
