@@ -11,10 +11,10 @@
  *
  *    1  no frames
  *    2  more than ENERGY_MAX_FRAMES frames, or a file above ENERGY_MAX_FILE_BYTES
- *    3  capacity above 1,000,000,000 (energy_needed: start or end above it)
+ *    3  capacity above ENERGY_MAX_CAPACITY (energy_needed: start or end above it)
  *    4  start above capacity
  *    5  end above capacity
- *    6  a harvest above 400,000; p is the earliest such frame, from 1
+ *    6  a harvest above ENERGY_MAX_HARVEST; p is the earliest such frame, from 1
  *    7  a list whose length is not K, or one too short for the file
  *    8  a malformed file; p is the word's place, from 0
  *    9  start plus all harvest is below the end charge; p is the amount missing
@@ -45,6 +45,10 @@ extern "C" {
 
 /* The most bytes of a word file. */
 #define ENERGY_MAX_FILE_BYTES 11920
+
+/* The largest capacity, and the largest harvest of a frame. */
+#define ENERGY_MAX_CAPACITY 1000000000
+#define ENERGY_MAX_HARVEST 400000
 
 /* Room for any listing. */
 #define ENERGY_LISTING_BYTES 81920

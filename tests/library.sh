@@ -1,5 +1,6 @@
 #!/usr/bin/env bash
-# The tests from outside: the Rust tests over libenergy.a, every function called from C, and the examples in C and Rust.
+# The tests from outside: the Rust tests over libenergy.a, the program's among them, every function called from C, the
+# declarations for Rust against the header, and the examples in C and Rust.
 # Its last line is 'N passed, M failed'; anything failed exits non-zero.
 set -u
 cd "$(dirname "$0")/.." || exit 2
@@ -28,14 +29,17 @@ if [ -d crates/energy ] && [ -z "${ENERGY_LIB_DIR:-}" ]; then
     verdict 'static library' $?
 fi
 
-cargo test --offline -j1 --manifest-path harness/Cargo.toml 2>&1 | tee "$work/log"
+rust/cargo test 2>&1 | tee "$work/log"
 status=${PIPESTATUS[0]}
 while read -r ok bad; do
     passed=$((passed + ok))
     failed=$((failed + bad))
 done < <(sed -n 's/^test result: .* \([0-9]*\) passed; \([0-9]*\) failed;.*/\1 \2/p' "$work/log")
 verdict 'Rust tests' "$status"
-compare 'example in Rust' tests/example.out cargo run --offline -q --manifest-path harness/Cargo.toml --example plan
+compare 'example in Rust' tests/example.out rust/cargo run -q -p energy --example plan
+
+rust/energy/bindings >"$work/raw.rs" && diff rust/energy/src/raw.rs "$work/raw.rs"
+verdict 'declarations for Rust are those of the header' $?
 
 if [ -f "$library" ]; then
     c_program tests/header.c "$work/header" && compare 'every function from C' tests/header.out "$work/header"

@@ -1,0 +1,49 @@
+//! Document 01's terms as types: figures, verdicts, the shift's record.
+
+use crate::refusal::Refusal;
+
+/// Capacity, start charge and end charge of a request; its harvests are a list beside it, one per frame.
+#[derive(Clone, Copy, Debug, PartialEq, Eq)]
+pub struct Figures {
+    pub capacity: u32,
+    pub start: u32,
+    pub end: u32,
+}
+
+/// The tracer's verdict on a supplied list of budgets.
+#[derive(Clone, Copy, Debug, PartialEq, Eq)]
+pub enum Verdict {
+    Feasible,
+    EndTooLow,
+    /// The earliest frame below zero among all but the last.
+    BelowZero {
+        frame: u32,
+    },
+}
+
+/// What planning the rest of a shift answers.
+#[derive(Clone, Copy, Debug, PartialEq, Eq)]
+pub enum Rest {
+    Planned,
+    /// Nothing is feasible: end charge less present charge less remaining harvest.
+    Short {
+        missing: u64,
+    },
+}
+
+/// A shift's record: K, frames recorded, capacity, start and end charge, present charge, and the totals so far.
+pub use crate::raw::EnergyShift as Shift;
+
+/// A recording that was refused: the refusal, and the shift as it was given.
+#[derive(Clone, Copy, Debug, PartialEq, Eq)]
+pub struct NotRecorded {
+    pub refusal: Refusal,
+    pub shift: Shift,
+}
+
+/// What a word file holds besides its harvests.
+#[derive(Clone, Copy, Debug, PartialEq, Eq)]
+pub struct FileRead {
+    pub figures: Figures,
+    pub frames: u32,
+}

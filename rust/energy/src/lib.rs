@@ -1,0 +1,44 @@
+//! The proved energy planner for Rust programs: the functions of `libenergy.a`, with answers and refusals as types.
+//!
+//! ```
+//! use energy::{Energy, Figures, Linked};
+//!
+//! let figures = Figures { capacity: 5, start: 2, end: 2 };
+//! let harvest = [6, 4, 0, 0, 5, 5];
+//! let mut budgets = [0; 6];
+//! Linked.plan(figures, &harvest, &mut budgets)?;
+//! assert_eq!(budgets, [4, 3, 3, 2, 4, 4]);
+//! assert_eq!(Linked.needed(figures.start, figures.end, &harvest)?, 6);
+//!
+//! let refusal = Linked.plan(Figures { end: 23, ..figures }, &harvest, &mut budgets).unwrap_err();
+//! assert_eq!((refusal.number(), refusal.p()), (5, 0));
+//! assert_eq!(refusal.sentence(), "the end charge is above the capacity");
+//! # Ok::<(), energy::Refusal>(())
+//! ```
+
+mod answers;
+mod interface;
+mod linked;
+#[allow(dead_code)]
+mod raw;
+mod refusal;
+
+pub use answers::{Figures, FileRead, NotRecorded, Rest, Shift, Verdict};
+pub use interface::Energy;
+pub use linked::Linked;
+pub use refusal::Refusal;
+
+/// The most frames of a request.
+pub const MAX_FRAMES: usize = raw::ENERGY_MAX_FRAMES as usize;
+
+/// The most bytes of a word file.
+pub const MAX_FILE_BYTES: usize = raw::ENERGY_MAX_FILE_BYTES as usize;
+
+/// Room for any listing.
+pub const LISTING_BYTES: usize = raw::ENERGY_LISTING_BYTES as usize;
+
+/// The largest capacity, in watt-hours.
+pub const MAX_CAPACITY: u32 = raw::ENERGY_MAX_CAPACITY;
+
+/// The largest harvest of a frame, in watt-hours.
+pub const MAX_HARVEST: u32 = raw::ENERGY_MAX_HARVEST;

@@ -1,0 +1,209 @@
+//! One case through an implementation, compared with the reference: every answer, and every lent list afterwards.
+
+use crate::cases::{Call, Case};
+use crate::reference::logbook::Logbook;
+use crate::reference::Reference;
+use energy::{Energy, Figures, Shift};
+use std::fmt::Debug;
+
+/// What written lists hold beforehand, so that a byte too many or too few shows.
+const OLD_BUDGET: u32 = 3_333_333_333;
+const OLD_CHARGE: i64 = -9_999;
+const OLD_BYTE: u8 = 0xa5;
+
+/// A difference in words, or nothing.
+pub type Checked = Result<(), String>;
+
+/// The two must be equal.
+fn same<T: PartialEq + Debug>(what: &str, given: T, expected: T) -> Checked {
+    if given == expected {
+        Ok(())
+    } else {
+        Err(format!("{what}: given {given:?}, expected {expected:?}"))
+    }
+}
+
+/// Runs a case and compares.
+pub fn check(energy: &dyn Energy, case: &Case) -> Checked {
+    match case {
+        Case::Plan {
+            figures,
+            harvest,
+            budgets,
+        } => twice(
+            energy,
+            &vec![OLD_BUDGET; *budgets],
+            |energy, budgets| energy.plan(*figures, harvest, budgets),
+            "plan",
+        ),
+        Case::Needed { start, end, harvest } => same(
+            "needed",
+            energy.needed(*start, *end, harvest),
+            Reference.needed(*start, *end, harvest),
+        ),
+        Case::Trace {
+            figures,
+            harvest,
+            budgets,
+            charges,
+        } => twice(
+            energy,
+            &vec![OLD_CHARGE; *charges],
+            |energy, charges| energy.trace(*figures, harvest, budgets, charges),
+            "trace",
+        ),
+        Case::Grade { budgets } => same("grade", energy.grade(budgets), Reference.grade(budgets)),
+        Case::Run {
+            figures,
+            harvest,
+            calls,
+        } => check_run(energy, *figures, harvest, calls),
+        Case::On { shift, call } => check_on(energy, *shift, call),
+        Case::Read { file, room } => twice(
+            energy,
+            &vec![OLD_BUDGET; *room],
+            |energy, harvest| energy.read(file, harvest),
+            "read",
+        ),
+        Case::Write { figures, harvest, room } => check_write(energy, *figures, harvest, *room),
+        Case::Listing { file, room } => twice(
+            energy,
+            &vec![OLD_BYTE; *room],
+            |energy, text| energy.listing(file, text),
+            "listing",
+        ),
+    }
+}
+
+/// Panics with the case in a form that can be run again, if an implementation differs.
+pub fn expect(energy: &dyn Energy, case: &Case) {
+    if let Err(difference) = check(energy, case) {
+        panic!(
+            "{} differs: {difference}\nrun it again: ENERGY_CASE='{case}' cargo test --test rerun",
+            energy.name()
+        );
+    }
+}
+
+/// The same call on both, each with its own copy of the written list.
+fn twice<T: Clone + PartialEq + Debug, A: PartialEq + Debug>(
+    energy: &dyn Energy,
+    list: &[T],
+    call: impl Fn(&dyn Energy, &mut [T]) -> A,
+    what: &str,
+) -> Checked {
+    let (mut given, mut expected) = (list.to_vec(), list.to_vec());
+    let answer = call(energy, &mut given);
+    same(what, answer, call(&Reference, &mut expected))?;
+    same(&format!("{what}, the list"), given, expected)
+}
+
+/// Writes a file, and reads back what was written.
+fn check_write(energy: &dyn Energy, figures: Figures, harvest: &[u32], room: usize) -> Checked {
+    twice(
+        energy,
+        &vec![OLD_BYTE; room],
+        |energy, file| energy.write(figures, harvest, file),
+        "write",
+    )?;
+    let mut file = vec![OLD_BYTE; room];
+    let Ok(length) = energy.write(figures, harvest, &mut file) else {
+        return Ok(());
+    };
+    let mut back = vec![OLD_BUDGET; harvest.len() + 3];
+    let read = energy
+        .read(&file[..length], &mut back)
+        .map_err(|refusal| format!("reads back: {refusal}"))?;
+    same("figures read back", read.figures, figures)?;
+    same("frames read back", read.frames as usize, harvest.len())?;
+    same("harvests read back", &back[..harvest.len()], harvest)?;
+    same("surplus", &back[harvest.len()..], &[OLD_BUDGET; 3])
+}
+
+/// Budgets as a caller might have them, with another value in every place.
+fn old_budgets(length: usize) -> Vec<u32> {
+    (0..length as u32).map(|i| OLD_BUDGET + i).collect()
+}
+
+/// Where a part lies in a list, in entries.
+fn position(part: &[u32], list: &[u32]) -> usize {
+    (part.as_ptr() as usize).wrapping_sub(list.as_ptr() as usize) / size_of::<u32>()
+}
+
+/// One call on any record.
+fn check_on(energy: &dyn Energy, shift: Shift, call: &Call) -> Checked {
+    match call {
+        Call::Record { harvest, used } => same(
+            "record",
+            energy.shift_record(shift, *harvest, *used),
+            Reference.shift_record(shift, *harvest, *used),
+        ),
+        Call::Rest { harvest, budgets } => twice(
+            energy,
+            &old_budgets(*budgets),
+            |energy, budgets| energy.shift_plan_rest(shift, harvest, budgets),
+            "rest",
+        ),
+        Call::Part { budgets } => {
+            let list = old_budgets(*budgets);
+            let given = energy.shift_rest_part(shift, &list);
+            let expected = Reference.shift_rest_part(shift, &list);
+            same("part", given, expected)?;
+            match (given, expected) {
+                (Ok(a), Ok(b)) => same("the part's position", position(a, &list), position(b, &list)),
+                _ => Ok(()),
+            }
+        }
+    }
+}
+
+/// A whole shift: after every call the answer and the record are the logbook's, and so are the budgets.
+fn check_run(energy: &dyn Energy, figures: Figures, harvest: &[u32], calls: &[Call]) -> Checked {
+    let started = energy.shift_start(figures, harvest);
+    same("start", started, Reference.shift_start(figures, harvest))?;
+    let Ok(mut shift) = started else {
+        return Ok(());
+    };
+    let mut log = Logbook::open(figures, harvest);
+    let mut given = old_budgets(harvest.len());
+    let mut expected = given.clone();
+    for (i, call) in calls.iter().enumerate() {
+        let what = format!("call {} ({call})", i + 1);
+        match call {
+            Call::Record { harvest, used } => {
+                let answer = energy.shift_record(shift, *harvest, *used);
+                same(
+                    &what,
+                    answer.map(|_| ()).map_err(|not| not.refusal),
+                    log.record(*harvest, *used),
+                )?;
+                shift = answer.unwrap_or_else(|not| not.shift);
+            }
+            Call::Rest { harvest, budgets } => {
+                given.resize(*budgets, OLD_BUDGET);
+                expected.resize(*budgets, OLD_BUDGET);
+                let answer = energy.shift_plan_rest(shift, harvest, &mut given);
+                same(&what, answer, log.plan_rest(harvest, &mut expected))?;
+            }
+            Call::Part { budgets } => {
+                given.resize(*budgets, OLD_BUDGET);
+                expected.resize(*budgets, OLD_BUDGET);
+                let part = energy.shift_rest_part(shift, &given);
+                same(
+                    &what,
+                    part.map(|part| position(part, &given)),
+                    log.rest_part(given.len()),
+                )?;
+                same(
+                    &what,
+                    part.unwrap_or(&[]),
+                    log.rest_part(given.len()).map_or(&[], |from| &expected[from..]),
+                )?;
+            }
+        }
+        same(&format!("{what}, the record"), shift, log.record_now())?;
+        same(&format!("{what}, the budgets"), &given, &expected)?;
+        same(&format!("{what}, the logbook's balance"), log.balances(), true)?;
+    }
+    Ok(())
+}

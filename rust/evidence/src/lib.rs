@@ -1,0 +1,18 @@
+//! Evidence about the energy planner from outside: an independent implementation of document 01, exhaustive search,
+//! the algorithms that serve as baselines, and cases that can be printed and run again.
+
+pub mod algorithms;
+pub mod cases;
+pub mod check;
+pub mod families;
+pub mod fast;
+pub mod generate;
+pub mod random;
+pub mod reference;
+
+use energy::{Energy, Linked};
+
+/// The implementations under test: the fast Rust one, and the proved library.
+pub fn under_test() -> Vec<Box<dyn Energy>> {
+    vec![Box::new(fast::Fast), Box::new(Linked)]
+}

@@ -1,0 +1,32 @@
+//! What the plan program prints for a word file.
+
+use super::limits::MAX_FRAMES;
+use energy::{Energy, Refusal};
+
+/// The text of a file's plan, by the calls of an implementation.
+fn text_of(energy: &dyn Energy, file: &[u8]) -> Result<String, Refusal> {
+    let mut harvest = vec![0; MAX_FRAMES];
+    let read = energy.read(file, &mut harvest)?;
+    harvest.truncate(read.frames as usize);
+    let figures = read.figures;
+    let mut budgets = vec![0; harvest.len()];
+    energy.plan(figures, &harvest, &mut budgets)?;
+    let needed = energy.needed(figures.start, figures.end, &harvest)?;
+    let mut charges = vec![0; harvest.len()];
+    energy.trace(figures, &harvest, &budgets, &mut charges)?;
+    let [a, b, c] = energy.grade(&budgets)?;
+    let mut text = format!("frames {} capacity {} needed {needed}\n", read.frames, figures.capacity);
+    for (i, (budget, charge)) in budgets.iter().zip(&charges).enumerate() {
+        text += &format!("{} {budget} {charge}\n", i + 1);
+    }
+    text += &format!("worth {a} {b} {c}\n");
+    Ok(text)
+}
+
+/// Writes the text, or the refusal, as far as there is room, and gives the number of bytes.
+pub fn listing(energy: &dyn Energy, file: &[u8], text: &mut [u8]) -> usize {
+    let whole = text_of(energy, file).unwrap_or_else(|refusal| format!("{refusal}\n"));
+    let bytes = whole.len().min(text.len());
+    text[..bytes].copy_from_slice(&whole.as_bytes()[..bytes]);
+    bytes
+}

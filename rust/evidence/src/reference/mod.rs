@@ -1,0 +1,86 @@
+//! Document 01 in Rust, written from the document and not from the Rattle code: simple methods, correctness first.
+
+pub mod charge;
+pub mod curves;
+pub mod exhaustive;
+pub mod limits;
+pub mod listing;
+pub mod logbook;
+pub mod needed;
+pub mod plan;
+pub mod refusals;
+pub mod shift;
+pub mod tables;
+pub mod tracer;
+pub mod wordfile;
+
+use energy::{Energy, Figures, FileRead, NotRecorded, Refusal, Rest, Shift, Verdict};
+
+/// The independent implementation.
+pub struct Reference;
+
+impl Energy for Reference {
+    fn name(&self) -> &'static str {
+        "reference"
+    }
+
+    fn plan(&self, figures: Figures, harvest: &[u32], budgets: &mut [u32]) -> Result<(), Refusal> {
+        refusals::plan(figures, harvest, budgets.len())?;
+        budgets.copy_from_slice(&plan::by_filling(
+            figures.capacity.into(),
+            figures.start.into(),
+            figures.end.into(),
+            harvest,
+        ));
+        Ok(())
+    }
+
+    fn needed(&self, start: u32, end: u32, harvest: &[u32]) -> Result<u64, Refusal> {
+        refusals::needed(start, end, harvest)?;
+        Ok(needed::needed(start.into(), end.into(), harvest))
+    }
+
+    fn trace(
+        &self,
+        figures: Figures,
+        harvest: &[u32],
+        budgets: &[u32],
+        charges: &mut [i64],
+    ) -> Result<Verdict, Refusal> {
+        refusals::trace(figures, harvest, budgets.len(), charges.len())?;
+        Ok(tracer::trace(figures, harvest, budgets, charges))
+    }
+
+    fn grade(&self, budgets: &[u32]) -> Result<[u64; 3], Refusal> {
+        refusals::frames(budgets.len())?;
+        Ok(curves::grade(budgets))
+    }
+
+    fn shift_start(&self, figures: Figures, harvest: &[u32]) -> Result<Shift, Refusal> {
+        shift::start(figures, harvest)
+    }
+
+    fn shift_record(&self, shift: Shift, harvest: u32, used: u32) -> Result<Shift, NotRecorded> {
+        shift::record(shift, harvest, used)
+    }
+
+    fn shift_plan_rest(&self, shift: Shift, harvest: &[u32], budgets: &mut [u32]) -> Result<Rest, Refusal> {
+        shift::plan_rest(shift, harvest, budgets, plan::by_filling)
+    }
+
+    fn shift_rest_part<'a>(&self, shift: Shift, budgets: &'a [u32]) -> Result<&'a [u32], Refusal> {
+        shift::rest_part(shift, budgets)
+    }
+
+    fn read(&self, file: &[u8], harvest: &mut [u32]) -> Result<FileRead, Refusal> {
+        wordfile::read(file, harvest)
+    }
+
+    fn write(&self, figures: Figures, harvest: &[u32], file: &mut [u8]) -> Result<usize, Refusal> {
+        wordfile::write(figures, harvest, file)
+    }
+
+    fn listing(&self, file: &[u8], text: &mut [u8]) -> usize {
+        listing::listing(self, file, text)
+    }
+}

@@ -1,0 +1,26 @@
+//! The tracer: charges of any budgets, below zero included, and the verdict.
+
+use energy::{Figures, Verdict};
+
+/// Writes the charge after each frame, and judges the budgets. All lists are equally long.
+pub fn trace(figures: Figures, harvest: &[u32], budgets: &[u32], charges: &mut [i64]) -> Verdict {
+    let capacity = i64::from(figures.capacity);
+    let mut charge = i64::from(figures.start);
+    for ((&h, &b), after) in harvest.iter().zip(budgets).zip(charges.iter_mut()) {
+        charge = capacity.min(charge + i64::from(h) - i64::from(b));
+        *after = charge;
+    }
+    verdict(figures, charges)
+}
+
+/// The earliest frame below zero among all but the last, else whether the end charge is met.
+fn verdict(figures: Figures, charges: &[i64]) -> Verdict {
+    let (&last, before) = charges.split_last().expect("a request has at least one frame");
+    match before.iter().position(|&charge| charge < 0) {
+        Some(place) => Verdict::BelowZero {
+            frame: place as u32 + 1,
+        },
+        None if last < i64::from(figures.end) => Verdict::EndTooLow,
+        None => Verdict::Feasible,
+    }
+}

@@ -1,0 +1,250 @@
+//! Cases at the limits: each bound passes, and one more is refused.
+
+use energy::{Energy, Figures, Refusal, Shift};
+use evidence::cases::{Call, Case};
+use evidence::check::expect;
+use evidence::reference::limits::{MAX_CAPACITY, MAX_FILE_BYTES, MAX_FRAMES, MAX_HARVEST};
+use evidence::reference::Reference;
+use evidence::under_test;
+
+/// The case through every implementation, compared with the reference.
+fn compare(case: Case) {
+    for energy in under_test() {
+        expect(&*energy, &case);
+    }
+}
+
+/// The reference's refusal number of a plan, 0 if it is accepted.
+fn refusal_number(figures: Figures, harvest: &[u32]) -> u32 {
+    let mut budgets = vec![0; harvest.len()];
+    Reference
+        .plan(figures, harvest, &mut budgets)
+        .map_or_else(Refusal::number, |()| 0)
+}
+
+fn figures(capacity: u32, start: u32, end: u32) -> Figures {
+    Figures { capacity, start, end }
+}
+
+#[test]
+fn a_harvest_of_400_000_passes_and_400_001_does_not() {
+    assert_eq!(refusal_number(figures(9, 0, 0), &[MAX_HARVEST]), 0);
+    assert_eq!(refusal_number(figures(9, 0, 0), &[MAX_HARVEST + 1]), 6);
+    for harvest in [vec![MAX_HARVEST], vec![0, MAX_HARVEST + 1, u32::MAX], vec![u32::MAX; 3]] {
+        compare(Case::Plan {
+            figures: figures(9, 0, 0),
+            budgets: harvest.len(),
+            harvest,
+        });
+    }
+}
+
+#[test]
+fn frames_up_to_2_976_pass_and_2_977_do_not() {
+    assert_eq!(refusal_number(figures(9, 0, 0), &[1; MAX_FRAMES]), 0);
+    assert_eq!(refusal_number(figures(9, 0, 0), &[1; MAX_FRAMES + 1]), 2);
+    for count in [0, 1, MAX_FRAMES, MAX_FRAMES + 1, 4 * MAX_FRAMES] {
+        let harvest = vec![7; count];
+        let figures = figures(9, 3, 3);
+        compare(Case::Plan {
+            figures,
+            harvest: harvest.clone(),
+            budgets: count,
+        });
+        compare(Case::Needed {
+            start: 3,
+            end: 3,
+            harvest: harvest.clone(),
+        });
+        compare(Case::Trace {
+            figures,
+            harvest: harvest.clone(),
+            budgets: vec![u32::MAX; count],
+            charges: count,
+        });
+        compare(Case::Grade {
+            budgets: vec![u32::MAX; count],
+        });
+        compare(Case::Write {
+            figures,
+            harvest: harvest.clone(),
+            room: 4 * (count + 4),
+        });
+        compare(Case::Run {
+            figures,
+            harvest: harvest.clone(),
+            calls: vec![
+                Call::Record { harvest: 5, used: 8 },
+                Call::Rest {
+                    harvest,
+                    budgets: count,
+                },
+                Call::Part { budgets: count },
+            ],
+        });
+    }
+}
+
+#[test]
+fn the_figures_at_their_limits() {
+    let most = MAX_CAPACITY;
+    for (capacity, start, end) in [
+        (most, most, most),
+        (most, most, 0),
+        (most, 0, most),
+        (most + 1, 0, 0),
+        (u32::MAX, u32::MAX, u32::MAX),
+        (5, 6, 6),
+        (5, 5, 6),
+        (5, 5, 5),
+        (0, 0, 0),
+        (0, 1, 0),
+        (0, 0, 1),
+    ] {
+        for harvest in [
+            vec![0],
+            vec![MAX_HARVEST; 5],
+            vec![MAX_HARVEST; MAX_FRAMES],
+            vec![0, MAX_HARVEST + 1],
+        ] {
+            let figures = figures(capacity, start, end);
+            compare(Case::Plan {
+                figures,
+                harvest: harvest.clone(),
+                budgets: harvest.len(),
+            });
+            compare(Case::Needed {
+                start,
+                end,
+                harvest: harvest.clone(),
+            });
+            compare(Case::Write {
+                figures,
+                room: 4 * (harvest.len() + 4),
+                harvest,
+            });
+        }
+    }
+}
+
+#[test]
+fn the_needed_capacity_may_exceed_the_limit_on_capacities() {
+    let mut harvest = vec![MAX_HARVEST; MAX_FRAMES / 2];
+    harvest.resize(MAX_FRAMES, 0);
+    for energy in under_test() {
+        let needed = energy
+            .needed(MAX_CAPACITY, MAX_CAPACITY, &harvest)
+            .expect("a valid request");
+        assert!(needed > u64::from(MAX_CAPACITY), "{}: {needed}", energy.name());
+    }
+    compare(Case::Needed {
+        start: MAX_CAPACITY,
+        end: MAX_CAPACITY,
+        harvest,
+    });
+}
+
+#[test]
+fn charges_far_below_zero() {
+    let charges = MAX_FRAMES;
+    compare(Case::Trace {
+        figures: figures(MAX_CAPACITY, 0, 0),
+        harvest: vec![0; charges],
+        budgets: vec![u32::MAX; charges],
+        charges,
+    });
+}
+
+#[test]
+fn files_around_the_largest_size() {
+    for bytes in MAX_FILE_BYTES - 5..=MAX_FILE_BYTES + 5 {
+        let mut file: Vec<u8> = [0, 0, 0].iter().flat_map(|word: &u32| word.to_le_bytes()).collect();
+        while file.len() + 4 < bytes {
+            file.extend((1_u32 << 30 | 7).to_le_bytes());
+        }
+        let count = (file.len() / 4 - 3) as u32;
+        file.extend((3_u32 << 30 | count).to_le_bytes());
+        file.resize(bytes, 0);
+        for room in [MAX_FRAMES - 1, MAX_FRAMES, MAX_FRAMES + 9] {
+            compare(Case::Read {
+                file: file.clone(),
+                room,
+            });
+        }
+    }
+}
+
+#[test]
+fn short_and_torn_files() {
+    let mut file: Vec<u8> = Vec::new();
+    for word in [9, 0, 0, 0x4000_0001, 0x4000_0002, 0xc000_0002, 0xc000_0002_u32] {
+        file.extend(word.to_le_bytes());
+    }
+    for bytes in 0..=file.len() {
+        for room in [0, 1, 2, 9] {
+            compare(Case::Read {
+                file: file[..bytes].to_vec(),
+                room,
+            });
+        }
+    }
+    let empty: Vec<u8> = [0, 0, 0, 3_u32 << 30]
+        .iter()
+        .flat_map(|word| word.to_le_bytes())
+        .collect();
+    for energy in under_test() {
+        assert_eq!(
+            energy.read(&empty, &mut []).map(|read| read.frames),
+            Ok(0),
+            "{}",
+            energy.name()
+        );
+        let refusal = energy.read(&[0; 12], &mut []).map(|read| read.frames);
+        assert_eq!(refusal, Err(Refusal::Malformed { word: 3 }), "{}", energy.name());
+    }
+}
+
+#[test]
+fn records_with_totals_near_the_largest_number() {
+    let good = Shift {
+        frames: 3,
+        recorded: 1,
+        capacity: 10,
+        start: 4,
+        end: 0,
+        charge: 5,
+        harvested: 7,
+        used: 2,
+        lost: 4,
+    };
+    let calls = [
+        Call::Record { harvest: 3, used: 2 },
+        Call::Rest {
+            harvest: vec![1, 2, 3],
+            budgets: 3,
+        },
+        Call::Part { budgets: 3 },
+    ];
+    for (used, lost) in [
+        (2, 4),
+        (3, 3),
+        (u64::MAX, 7),
+        (u64::MAX, u64::MAX),
+        (1 << 63, (1 << 63) + 6),
+        (2, 5),
+    ] {
+        for harvested in [7, 400_000, 400_001, u64::MAX] {
+            for call in &calls {
+                compare(Case::On {
+                    shift: Shift {
+                        used,
+                        lost,
+                        harvested,
+                        ..good
+                    },
+                    call: call.clone(),
+                });
+            }
+        }
+    }
+}

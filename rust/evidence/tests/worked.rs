@@ -1,0 +1,171 @@
+//! Document 01's cases worked by hand, through every implementation.
+
+use energy::{Energy, Figures, Refusal, Rest, Shift, Verdict};
+use evidence::reference::limits::LISTING_BYTES;
+use evidence::reference::Reference;
+use evidence::under_test;
+
+/// The harvests of the listing.
+const LISTING: [u32; 6] = [6, 4, 0, 0, 5, 5];
+
+/// What the plan program prints for the listing's request.
+const LISTED: &str = "frames 6 capacity 5 needed 6\n\
+    1 4 4\n2 3 5\n3 3 2\n4 2 0\n5 4 1\n6 4 2\n\
+    worth 320 480 100\n";
+
+/// Every implementation, the reference too.
+fn all() -> Vec<Box<dyn Energy>> {
+    let mut all = under_test();
+    all.push(Box::new(Reference));
+    all
+}
+
+fn figures(capacity: u32, start: u32, end: u32) -> Figures {
+    Figures { capacity, start, end }
+}
+
+/// The plan of a request, or its refusal.
+fn plan(energy: &dyn Energy, figures: Figures, harvest: &[u32]) -> Result<Vec<u32>, Refusal> {
+    let mut budgets = vec![0; harvest.len()];
+    energy.plan(figures, harvest, &mut budgets).map(|()| budgets)
+}
+
+/// The words of a file as 32-bit numbers.
+fn words(file: &[u8]) -> Vec<u32> {
+    file.chunks(4)
+        .map(|bytes| u32::from_le_bytes(bytes.try_into().expect("whole words")))
+        .collect()
+}
+
+#[test]
+fn plans() {
+    for energy in all() {
+        let plan = |capacity, start, end, harvest: &[u32]| plan(&*energy, figures(capacity, start, end), harvest);
+        assert_eq!(plan(5, 2, 2, &LISTING), Ok(vec![4, 3, 3, 2, 4, 4]), "{}", energy.name());
+        assert_eq!(plan(6, 2, 2, &LISTING), Ok(vec![3, 3, 3, 3, 4, 4]), "{}", energy.name());
+        assert_eq!(plan(9, 0, 0, &[1, 2]), Ok(vec![1, 2]), "{}", energy.name());
+        assert_eq!(plan(9, 0, 0, &[2, 1]), Ok(vec![2, 1]), "{}", energy.name());
+        assert_eq!(plan(10, 10, 0, &[0]), Ok(vec![10]), "{}", energy.name());
+        assert_eq!(plan(8, 3, 7, &[4]), Ok(vec![0]), "{}", energy.name());
+        assert_eq!(
+            plan(8, 3, 8, &[4]),
+            Err(Refusal::OutOfReach { missing: 1 }),
+            "{}",
+            energy.name()
+        );
+        assert_eq!(plan(0, 0, 0, &[5]), Ok(vec![5]), "{}", energy.name());
+    }
+}
+
+#[test]
+fn needed_capacities() {
+    for energy in all() {
+        assert_eq!(energy.needed(2, 2, &LISTING), Ok(6), "{}", energy.name());
+        assert_eq!(energy.needed(0, 0, &[1, 2]), Ok(0), "{}", energy.name());
+        assert_eq!(energy.needed(10, 0, &[0]), Ok(10), "{}", energy.name());
+    }
+}
+
+#[test]
+fn a_supplied_list_below_zero() {
+    for energy in all() {
+        let mut charges = [0; 6];
+        let verdict = energy.trace(figures(22, 2, 2), &LISTING, &[4, 4, 4, 4, 2, 2], &mut charges);
+        assert_eq!(verdict, Ok(Verdict::BelowZero { frame: 4 }), "{}", energy.name());
+        assert_eq!(charges, [4, 4, 0, -4, -1, 2], "{}", energy.name());
+    }
+}
+
+#[test]
+fn recordings() {
+    for energy in all() {
+        let shift = energy.shift_start(figures(5, 4, 0), &[0]).expect("a valid request");
+        let record = |used| {
+            energy
+                .shift_record(shift, 3, used)
+                .map(|s| (s.charge, s.lost))
+                .map_err(|not| not.refusal)
+        };
+        assert_eq!(record(7), Ok((0, 0)), "{}", energy.name());
+        assert_eq!(
+            record(8),
+            Err(Refusal::UseAboveCharge { excess: 1 }),
+            "{}",
+            energy.name()
+        );
+        assert_eq!(record(1), Ok((5, 1)), "{}", energy.name());
+    }
+}
+
+#[test]
+fn the_rest_after_a_recording() {
+    for energy in all() {
+        let shift = energy.shift_start(figures(5, 2, 2), &LISTING).expect("a valid request");
+        let shift = energy.shift_record(shift, 1, 3).expect("a frame to record");
+        let expected = Shift {
+            frames: 6,
+            recorded: 1,
+            capacity: 5,
+            start: 2,
+            end: 2,
+            charge: 0,
+            harvested: 1,
+            used: 3,
+            lost: 0,
+        };
+        assert_eq!(shift, expected, "{}", energy.name());
+        let mut budgets = [4, 3, 3, 2, 4, 4];
+        assert_eq!(
+            energy.shift_plan_rest(shift, &LISTING, &mut budgets),
+            Ok(Rest::Planned),
+            "{}",
+            energy.name()
+        );
+        assert_eq!(budgets, [4, 2, 1, 1, 4, 4], "{}", energy.name());
+        assert_eq!(
+            energy.shift_rest_part(shift, &budgets),
+            Ok(&budgets[1..]),
+            "{}",
+            energy.name()
+        );
+    }
+}
+
+#[test]
+fn words_of_a_file() {
+    for energy in all() {
+        let mut file = [0xee; 28];
+        assert_eq!(
+            energy.write(figures(9, 0, 0), &[1, 2], &mut file),
+            Ok(24),
+            "{}",
+            energy.name()
+        );
+        let expected = [9, 0, 0, 0x4000_0001, 0x4000_0002, 0xc000_0002, 0xeeee_eeee];
+        assert_eq!(words(&file), expected, "{}", energy.name());
+    }
+}
+
+#[test]
+fn the_listing() {
+    for energy in all() {
+        let mut file = [0; 40];
+        assert_eq!(
+            energy.write(figures(5, 2, 2), &LISTING, &mut file),
+            Ok(40),
+            "{}",
+            energy.name()
+        );
+        assert_eq!(listing(&*energy, &file), LISTED, "{}", energy.name());
+        assert_eq!(listing(&*energy, &file[..39]), "refused 8 9\n", "{}", energy.name());
+        assert_eq!(listing(&*energy, &[]), "refused 8 0\n", "{}", energy.name());
+        assert_eq!(listing(&*energy, &[0; 11_921]), "refused 2 0\n", "{}", energy.name());
+    }
+}
+
+/// The text that an implementation lists.
+fn listing(energy: &dyn Energy, file: &[u8]) -> String {
+    let mut text = vec![0; LISTING_BYTES];
+    let bytes = energy.listing(file, &mut text);
+    String::from_utf8(text[..bytes].to_vec()).expect("a listing is plain text")
+}

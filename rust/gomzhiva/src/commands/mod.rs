@@ -1,0 +1,40 @@
+//! What each command does.
+
+mod budgets;
+mod plan;
+mod shift;
+mod trace;
+
+use crate::cli::{Command, OutputArguments};
+use crate::failure::Failure;
+use crate::files::print;
+use crate::request::{read_budgets, RequestArguments};
+use energy::{Energy, Linked};
+
+pub fn run(command: &Command) -> Result<(), Failure> {
+    match command {
+        Command::Plan(arguments) => plan::run(arguments),
+        Command::Needed { request } => needed(request),
+        Command::Trace(arguments) => trace::run(arguments),
+        Command::Grade { budgets } => print(&(worth(&read_budgets(budgets)?)? + "\n")),
+        Command::Words { request, output } => words(request, output),
+        Command::Text { request, output } => output.output.write(request.read()?.request()?.text().as_bytes()),
+        Command::Shift(command) => shift::run(command),
+    }
+}
+
+fn needed(request: &RequestArguments) -> Result<(), Failure> {
+    let draft = request.read()?;
+    let needed = Linked.needed(draft.start()?, draft.end()?, &draft.harvest)?;
+    print(&format!("needed capacity {needed} Wh\n"))
+}
+
+fn words(request: &RequestArguments, output: &OutputArguments) -> Result<(), Failure> {
+    output.output.write(&request.read()?.request()?.word_file()?)
+}
+
+/// What budgets earn, in words.
+fn worth(budgets: &[u32]) -> Result<String, Failure> {
+    let [curve0, curve1, curve2] = Linked.grade(budgets)?;
+    Ok(format!("worth {curve0} {curve1} {curve2} by house curves 0, 1 and 2"))
+}

@@ -1,0 +1,76 @@
+//! `plan`: the plan of a request.
+
+use super::budgets::Budgets;
+use super::worth;
+use crate::cli::PlanArguments;
+use crate::failure::Failure;
+use crate::files::print;
+use crate::report::{counted, mean, sum};
+use crate::request::{Draft, Request};
+use energy::{Energy, Linked, Refusal, LISTING_BYTES};
+
+pub fn run(arguments: &PlanArguments) -> Result<(), Failure> {
+    let draft = arguments.request.read()?;
+    if arguments.listing {
+        return listing(draft);
+    }
+    let request = draft.request()?;
+    let mut budgets = vec![0; request.harvest.len()];
+    Linked.plan(request.figures, &request.harvest, &mut budgets)?;
+    let plan = Budgets::trace(&request, budgets)?;
+    let title = format!("Plan of {}", arguments.request.request.input_name());
+    plan.show(&arguments.report, &title, &summary(&request, &plan)?)
+}
+
+/// Prints document 01's listing, from the proved entry.
+fn listing(mut draft: Draft) -> Result<(), Failure> {
+    let file = match draft.word_file.take() {
+        Some(file) => file,
+        None => draft.request()?.word_file()?,
+    };
+    let mut text = vec![0; LISTING_BYTES];
+    let length = Linked.listing(&file, &mut text);
+    let text = String::from_utf8_lossy(&text[..length]);
+    match refusal_in(&text) {
+        Some(refusal) => Err(refusal.into()),
+        None => print(&text),
+    }
+}
+
+/// The refusal that a listing consists of.
+fn refusal_in(listing: &str) -> Option<Refusal> {
+    let mut words = listing.strip_prefix("refused ")?.split_whitespace();
+    let number = words.next()?.parse().ok()?;
+    let p = words.next()?.parse().ok()?;
+    Some(Refusal::from_code(number, p))
+}
+
+/// The plan in words.
+fn summary(request: &Request, plan: &Budgets<'_>) -> Result<String, Failure> {
+    let figures = request.figures;
+    let budgets = &plan.budgets;
+    let needed = Linked.needed(figures.start, figures.end, &request.harvest)?;
+    Ok(format!(
+        "\n{}: {} Wh harvested, {} Wh budgeted (mean {}, most {}).\n\
+         The charge goes from {} to {} Wh, and is at most {} Wh after a frame, of a capacity of {} Wh.\n\
+         A capacity of {needed} Wh would serve every curve as well as unlimited storage.\n\
+         {}.\n",
+        counted(budgets.len(), "frame"),
+        sum(&request.harvest),
+        sum(budgets),
+        mean(budgets),
+        budgets.iter().max().unwrap_or(&0),
+        figures.start,
+        plan.last_charge(),
+        plan.charges.iter().max().unwrap_or(&0),
+        figures.capacity,
+        capitalised(&worth(budgets)?),
+    ))
+}
+
+fn capitalised(sentence: &str) -> String {
+    let mut characters = sentence.chars();
+    characters
+        .next()
+        .map_or(String::new(), |first| first.to_uppercase().chain(characters).collect())
+}

@@ -1,0 +1,177 @@
+//! `shift`: a running shift over its journal.
+
+use super::budgets::Budgets;
+use crate::chart::Picture;
+use crate::cli::{JournalArguments, OutputArguments, ShiftCommand};
+use crate::failure::Failure;
+use crate::files::print;
+use crate::journal::{Journal, Purpose, Recorded, Running};
+use crate::report::{counted, frames, mean, sum, Table};
+use crate::request::{Request, RequestArguments};
+use energy::{Energy, Figures, Linked, Refusal, Rest, Shift};
+use std::io::{self, Write};
+
+pub fn run(command: &ShiftCommand) -> Result<(), Failure> {
+    match command {
+        ShiftCommand::Start { request, journal } => start(request, journal),
+        ShiftCommand::Record {
+            harvest,
+            used,
+            frame,
+            journal,
+        } => record(*harvest, *used, *frame, journal),
+        ShiftCommand::Plan { journal, csv } => plan(&look(journal)?, *csv),
+        ShiftCommand::Show { journal, csv } => show(&look(journal)?, *csv),
+        ShiftCommand::Chart { output, journal } => chart(&look(journal)?, output),
+    }
+}
+
+fn start(request: &RequestArguments, journal: &JournalArguments) -> Result<(), Failure> {
+    let running = Journal::start(&journal.journal, request.read()?.request()?)?;
+    print(&format!("Started. {}\n", standing(&running.shift)))
+}
+
+fn record(harvest: u32, used: u32, frame: Option<u32>, journal: &JournalArguments) -> Result<(), Failure> {
+    let mut journal = open(journal, Purpose::Record)?;
+    let next = journal.running.shift.recorded + 1;
+    if let Some(frame) = frame.filter(|&frame| frame != next) {
+        return Err(Failure::Fault(format!(
+            "gomzhiva: --frame {frame}: the next frame is {next}; nothing is recorded"
+        )));
+    }
+    journal.record(harvest, used)?;
+    print(&format!(
+        "Recorded frame {next}. {}\n",
+        standing(&journal.running.shift)
+    ))
+}
+
+fn look(journal: &JournalArguments) -> Result<Running, Failure> {
+    Ok(open(journal, Purpose::Look)?.running)
+}
+
+/// Opens a journal, and tells of a torn line.
+fn open(journal: &JournalArguments, purpose: Purpose) -> Result<Journal, Failure> {
+    let journal = Journal::open(&journal.journal, purpose)?;
+    if let Some(notice) = journal.notice() {
+        // A notice that nobody can read changes nothing.
+        let _ = writeln!(io::stderr(), "{notice}");
+    }
+    Ok(journal)
+}
+
+/// How a shift stands, in words.
+fn standing(shift: &Shift) -> String {
+    format!(
+        "{} of {} recorded; charge {} Wh of a capacity of {} Wh; {} Wh harvested, {} Wh used, {} Wh lost.",
+        shift.recorded,
+        counted(shift.frames as usize, "frame"),
+        shift.charge,
+        shift.capacity,
+        shift.harvested,
+        shift.used,
+        shift.lost,
+    )
+}
+
+fn show(running: &Running, csv: bool) -> Result<(), Failure> {
+    let column = |value: fn(&Recorded) -> u32| running.recorded.iter().map(|r| value(r).into()).collect();
+    let table = Table {
+        columns: vec![
+            ("frame", frames(0, running.recorded.len())),
+            ("harvest", column(|r| r.harvest)),
+            ("use", column(|r| r.used)),
+            ("charge", column(|r| r.charge)),
+        ],
+    };
+    if csv {
+        return print(&table.csv());
+    }
+    print(&format!("{}\n{}\n", table.aligned(), standing(&running.shift)))
+}
+
+fn plan(running: &Running, csv: bool) -> Result<(), Failure> {
+    let (rest, budgets) = running.plan_rest()?;
+    let request = rest_request(running);
+    let traced = Budgets::trace(&request, budgets)?;
+    let table = traced.table(running.shift.recorded);
+    if csv {
+        return print(&table.csv());
+    }
+    print(&format!(
+        "{}\n{}\n",
+        table.aligned(),
+        rest_words(rest, running, &traced)
+    ))
+}
+
+/// What is left of a shift as a request: the present charge is its start charge.
+fn rest_request(running: &Running) -> Request {
+    let Shift {
+        capacity, charge, end, ..
+    } = running.shift;
+    Request {
+        figures: Figures {
+            capacity,
+            start: charge,
+            end,
+        },
+        harvest: running.rest_harvest().to_vec(),
+    }
+}
+
+/// The plan of the rest in words.
+fn rest_words(rest: Rest, running: &Running, traced: &Budgets<'_>) -> String {
+    let Shift { charge, end, .. } = running.shift;
+    let left = counted(traced.budgets.len(), "frame");
+    match rest {
+        Rest::Planned => format!(
+            "{left} left: {} Wh expected, {} Wh budgeted (mean {}). The charge goes from {charge} to {} Wh.",
+            sum(running.rest_harvest()),
+            sum(&traced.budgets),
+            mean(&traced.budgets),
+            traced.last_charge(),
+        ),
+        Rest::Short { missing } => format!(
+            "Short: with nothing used in the {left} left, the end charge of {end} Wh is still missed by {missing} Wh, so every budget is 0."
+        ),
+    }
+}
+
+fn chart(running: &Running, output: &OutputArguments) -> Result<(), Failure> {
+    let budgets = match running.plan_rest() {
+        Err(Refusal::AllRecorded) => Vec::new(),
+        planned => planned?.1,
+    };
+    let planned_charges = match budgets.as_slice() {
+        [] => Vec::new(),
+        _ => Budgets::trace(&rest_request(running), budgets.clone())?.charges,
+    };
+    let recorded = running.recorded.iter();
+    let harvest: Vec<u32> = recorded
+        .clone()
+        .map(|r| r.harvest)
+        .chain(running.rest_harvest().iter().copied())
+        .collect();
+    let budgets: Vec<u32> = recorded.clone().map(|r| r.used).chain(budgets).collect();
+    let charges: Vec<i64> = recorded.map(|r| r.charge.into()).chain(planned_charges).collect();
+    let Shift {
+        capacity, start, end, ..
+    } = running.shift;
+    let picture = Picture {
+        title: &format!(
+            "Shift: {} of {} recorded",
+            running.recorded.len(),
+            counted(harvest.len(), "frame")
+        ),
+        capacity,
+        needed: Linked.needed(start, end, &harvest).ok(),
+        start,
+        end,
+        harvest: &harvest,
+        budgets: &budgets,
+        charges: &charges,
+        recorded: running.recorded.len(),
+    };
+    output.output.write(picture.svg().as_bytes())
+}

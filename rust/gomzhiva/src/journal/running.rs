@@ -1,0 +1,56 @@
+//! A running shift: its forecast, its record in the library's hands, and the frames recorded.
+
+use crate::request::Request;
+use energy::{Energy, Linked, Refusal, Rest, Shift};
+
+/// A frame that was recorded, with the charge after it.
+#[derive(Clone, Copy, Debug, PartialEq, Eq)]
+pub struct Recorded {
+    pub harvest: u32,
+    pub used: u32,
+    pub charge: u32,
+}
+
+#[derive(Clone, Debug)]
+pub struct Running {
+    pub forecast: Vec<u32>,
+    pub shift: Shift,
+    pub recorded: Vec<Recorded>,
+}
+
+impl Running {
+    pub fn start(request: Request) -> Result<Running, Refusal> {
+        let shift = Linked.shift_start(request.figures, &request.harvest)?;
+        Ok(Running {
+            forecast: request.harvest,
+            shift,
+            recorded: Vec::new(),
+        })
+    }
+
+    /// Records the next frame; a refusal leaves the shift as it was.
+    pub fn record(&mut self, harvest: u32, used: u32) -> Result<(), Refusal> {
+        self.shift = Linked
+            .shift_record(self.shift, harvest, used)
+            .map_err(|not| not.refusal)?;
+        self.recorded.push(Recorded {
+            harvest,
+            used,
+            charge: self.shift.charge,
+        });
+        Ok(())
+    }
+
+    /// The budgets of the frames not yet recorded.
+    pub fn plan_rest(&self) -> Result<(Rest, Vec<u32>), Refusal> {
+        let mut budgets = vec![0; self.forecast.len()];
+        let rest = Linked.shift_plan_rest(self.shift, &self.forecast, &mut budgets)?;
+        let part = Linked.shift_rest_part(self.shift, &budgets)?;
+        Ok((rest, part.to_vec()))
+    }
+
+    /// The forecast of the frames not yet recorded.
+    pub fn rest_harvest(&self) -> &[u32] {
+        &self.forecast[self.recorded.len()..]
+    }
+}

@@ -1,0 +1,109 @@
+//! The lines of a journal: a call, then ` *` and the CRC-32 of everything in the file before it, so that a changed, lost or
+//! moved line is noticed. What stands behind the last line end was torn while it was written.
+
+use crc32fast::Hasher;
+
+/// The checksum of a journal's lines so far.
+#[derive(Clone, Debug, Default)]
+pub struct Seal(Hasher);
+
+/// The bytes of ` *` and the checksum behind a call.
+const CLOSING: usize = 10;
+
+impl Seal {
+    /// The line of a call, and the seal after it.
+    pub fn close(&self, call: &str) -> (String, Seal) {
+        let mut hasher = self.0.clone();
+        hasher.update(call.as_bytes());
+        let line = format!("{call} *{:08x}\n", hasher.clone().finalize());
+        hasher.update(line[call.len()..].as_bytes());
+        (line, Seal(hasher))
+    }
+
+    /// The call of a whole line, and the seal after it; none if this line cannot stand here.
+    pub fn open<'a>(&self, line: &'a [u8]) -> Option<(&'a str, Seal)> {
+        let call = line.get(..line.len().checked_sub(CLOSING + 1)?)?;
+        let call = std::str::from_utf8(call).ok()?;
+        let (expected, seal) = self.close(call);
+        (expected.as_bytes() == line).then_some((call, seal))
+    }
+
+    /// Whether the bytes behind the last line end can be the beginning of a line that was not written whole. A system that
+    /// went down may have left zero bytes in place of the rest.
+    pub fn is_torn(&self, tail: &[u8]) -> bool {
+        let length = tail.iter().rposition(|&b| b != 0).map_or(0, |last| last + 1);
+        let tail = &tail[..length];
+        match tail.iter().position(|&b| b == b'*') {
+            None => tail
+                .iter()
+                .all(|&b| b == b' ' || b.is_ascii_lowercase() || b.is_ascii_digit()),
+            Some(star) => {
+                let call = std::str::from_utf8(&tail[..star])
+                    .ok()
+                    .and_then(|text| text.strip_suffix(' '));
+                call.map_or(false, |call| self.close(call).0.as_bytes().starts_with(tail))
+            }
+        }
+    }
+}
+
+#[cfg(test)]
+mod tests {
+    use super::*;
+
+    const CALLS: [&str; 3] = ["start capacity 5", "record 1 3", "record 1 3"];
+
+    fn journal() -> Vec<(String, Seal)> {
+        let mut seal = Seal::default();
+        let mut lines = Vec::new();
+        for call in CALLS {
+            let (line, next) = seal.close(call);
+            lines.push((line, seal));
+            seal = next;
+        }
+        lines
+    }
+
+    #[test]
+    fn lines_open_where_they_were_closed() {
+        for ((line, seal), call) in journal().iter().zip(CALLS) {
+            assert_eq!(seal.open(line.as_bytes()).map(|(call, _)| call), Some(call));
+        }
+        let lines = journal();
+        assert!(
+            lines[1].1.open(lines[2].0.as_bytes()).is_none(),
+            "a line in another's place"
+        );
+    }
+
+    #[test]
+    fn every_changed_byte_is_noticed() {
+        for (line, seal) in journal() {
+            for i in 0..line.len() {
+                for change in 1..=255 {
+                    let mut changed = line.clone().into_bytes();
+                    changed[i] ^= change;
+                    assert!(seal.open(&changed).is_none(), "byte {i} of {line:?}");
+                }
+            }
+        }
+    }
+
+    #[test]
+    fn the_beginning_of_a_line_is_torn_and_nothing_else() {
+        for (line, seal) in journal() {
+            for length in 0..line.len() {
+                let mut tail = line.as_bytes()[..length].to_vec();
+                assert!(seal.is_torn(&tail), "{length} bytes of {line:?}");
+                tail.extend([0; 5]);
+                assert!(seal.is_torn(&tail), "{length} bytes of {line:?} and zeros");
+            }
+            for change in (1..=255).filter(|change| change ^ b'\n' != 0) {
+                let mut changed = line.clone().into_bytes();
+                *changed.last_mut().unwrap() ^= change;
+                assert!(!seal.is_torn(&changed), "the line end changed by {change}");
+            }
+        }
+        assert!(!Seal::default().is_torn(b"\xff"));
+    }
+}

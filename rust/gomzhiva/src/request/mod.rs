@@ -1,0 +1,176 @@
+//! Requests and budgets from files: text, CSV or a word file, told apart by what they hold.
+
+mod cells;
+mod fault;
+mod sheet;
+
+pub use fault::{quoted, Fault};
+
+use crate::failure::Failure;
+use crate::files::{Place, MOST_BYTES};
+use clap::Args;
+use energy::{Energy, Figures, Linked, MAX_FILE_BYTES, MAX_FRAMES};
+use sheet::{BUDGET, CAPACITY, END, FIGURES, HARVEST, START};
+
+/// Where a request stands, and figures in place of its own.
+#[derive(Args, Debug)]
+pub struct RequestArguments {
+    /// The request: text, CSV or a word file; - is standard input
+    pub request: Place,
+    /// The capacity in Wh, in place of the request's
+    #[arg(long, value_name = "WH")]
+    pub capacity: Option<u32>,
+    /// The start charge in Wh, in place of the request's
+    #[arg(long, value_name = "WH")]
+    pub start: Option<u32>,
+    /// The end charge in Wh, in place of the request's
+    #[arg(long, value_name = "WH")]
+    pub end: Option<u32>,
+}
+
+/// A request that is whole.
+#[derive(Clone, Debug, PartialEq, Eq)]
+pub struct Request {
+    pub figures: Figures,
+    pub harvest: Vec<u32>,
+}
+
+/// A request as it was read: a table alone leaves its figures open.
+#[derive(Debug)]
+pub struct Draft {
+    figures: [Option<u32>; FIGURES.len()],
+    pub harvest: Vec<u32>,
+    /// The word file itself, where the request is just what it holds.
+    pub word_file: Option<Vec<u8>>,
+    name: String,
+    end_line: usize,
+}
+
+impl RequestArguments {
+    /// Reads the request, and puts the given figures in place of its own.
+    pub fn read(&self) -> Result<Draft, Failure> {
+        let bytes = self.request.read()?;
+        let name = self.request.input_name();
+        let mut draft = if is_word_file(&bytes) {
+            from_words(bytes, name)?
+        } else {
+            from_text(&bytes, name)?
+        };
+        let given = [self.capacity, self.start, self.end];
+        for (figure, given) in draft.figures.iter_mut().zip(given) {
+            if given.is_some() {
+                *figure = given;
+                draft.word_file = None;
+            }
+        }
+        Ok(draft)
+    }
+}
+
+impl Draft {
+    fn figure(&self, which: usize) -> Result<u32, Failure> {
+        let name = FIGURES[which];
+        self.figures[which].ok_or_else(|| {
+            let expected = format!("'{name}' with its number before the table, or the option --{name},");
+            Fault::at_end(self.end_line, expected).of(&self.name)
+        })
+    }
+
+    pub fn start(&self) -> Result<u32, Failure> {
+        self.figure(START)
+    }
+
+    pub fn end(&self) -> Result<u32, Failure> {
+        self.figure(END)
+    }
+
+    /// The whole request.
+    pub fn request(self) -> Result<Request, Failure> {
+        let figures = Figures {
+            capacity: self.figure(CAPACITY)?,
+            start: self.start()?,
+            end: self.end()?,
+        };
+        let harvest = self.harvest;
+        Ok(Request { figures, harvest })
+    }
+}
+
+impl Request {
+    /// The word file, from the proved writer.
+    pub fn word_file(&self) -> Result<Vec<u8>, Failure> {
+        let mut file = vec![0; MAX_FILE_BYTES];
+        let length = Linked.write(self.figures, &self.harvest, &mut file)?;
+        file.truncate(length);
+        Ok(file)
+    }
+
+    /// The request as text.
+    pub fn text(&self) -> String {
+        let Figures { capacity, start, end } = self.figures;
+        let mut text = String::new();
+        for (name, value) in FIGURES.iter().zip([capacity, start, end]) {
+            text += &format!("{name} {value}\n");
+        }
+        text += "harvest\n";
+        for harvest in &self.harvest {
+            text += &format!("{harvest}\n");
+        }
+        text
+    }
+}
+
+/// The budgets in a file: a table with the column `budget`, or bare numbers.
+pub fn read_budgets(place: &Place) -> Result<Vec<u32>, Failure> {
+    let name = place.input_name();
+    let text = text_of(&place.read()?, &name)?;
+    let fault = |fault: Fault| fault.of(&name);
+    match sheet::bare_numbers(&text).map_err(fault)? {
+        Some(list) => Ok(list),
+        None => sheet::parse(&text)
+            .and_then(|mut sheet| sheet.list(BUDGET))
+            .map_err(fault),
+    }
+}
+
+/// A word file has a control character that no text has: the third byte of its end word is 0.
+fn is_word_file(bytes: &[u8]) -> bool {
+    bytes.iter().any(|&b| b < b' ' && !b"\t\n\r".contains(&b))
+}
+
+fn from_words(bytes: Vec<u8>, name: String) -> Result<Draft, Failure> {
+    let mut harvest = vec![0; MAX_FRAMES];
+    let read = Linked.read(&bytes, &mut harvest)?;
+    harvest.truncate(read.frames as usize);
+    let Figures { capacity, start, end } = read.figures;
+    Ok(Draft {
+        figures: [capacity, start, end].map(Some),
+        harvest,
+        word_file: Some(bytes),
+        name,
+        end_line: 1,
+    })
+}
+
+fn from_text(bytes: &[u8], name: String) -> Result<Draft, Failure> {
+    let text = text_of(bytes, &name)?;
+    let mut sheet = sheet::parse(&text).map_err(|fault| fault.of(&name))?;
+    let harvest = sheet.list(HARVEST).map_err(|fault| fault.of(&name))?;
+    Ok(Draft {
+        figures: [CAPACITY, START, END].map(|which| sheet.figure(which)),
+        harvest,
+        word_file: None,
+        name,
+        end_line: sheet.end_line,
+    })
+}
+
+/// The characters of a text; bytes that are none stand out where they are looked at, and may stand in comments.
+fn text_of(bytes: &[u8], name: &str) -> Result<String, Failure> {
+    if bytes.len() > MOST_BYTES {
+        return Err(Failure::Fault(format!(
+            "{name}: a text of at most {MOST_BYTES} bytes is expected, found more"
+        )));
+    }
+    Ok(String::from_utf8_lossy(bytes).into_owned())
+}

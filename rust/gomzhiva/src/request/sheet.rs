@@ -1,0 +1,276 @@
+//! The notation of a request as text: named figures, a line that names the columns, then a line for each frame.
+//!
+//! A further figure or column that a request may have is one more row of `FIGURES` or `COLUMNS`.
+
+use super::cells::{count_lines, lines, Cell, Line};
+use super::fault::{quoted, Fault, END_OF_LINE};
+
+/// A figure that stands once in a request, by its name.
+pub const FIGURES: [&str; 3] = ["capacity", "start", "end"];
+pub const CAPACITY: usize = 0;
+pub const START: usize = 1;
+pub const END: usize = 2;
+
+/// A column of the table of frames: a list of numbers, or what only people read.
+pub const COLUMNS: [(&str, Kind); 5] = [
+    ("harvest", Kind::List(HARVEST)),
+    ("budget", Kind::List(BUDGET)),
+    ("frame", Kind::Skipped),
+    ("time", Kind::Skipped),
+    ("charge", Kind::Skipped),
+];
+pub const HARVEST: usize = 0;
+pub const BUDGET: usize = 1;
+const LISTS: usize = 2;
+
+#[derive(Clone, Copy, Debug, PartialEq, Eq)]
+pub enum Kind {
+    List(usize),
+    Skipped,
+}
+
+/// What a text says: each figure with its line, each list of its table, and where it ends.
+#[derive(Debug, Default)]
+pub struct Sheet {
+    figures: [Option<(u32, usize)>; FIGURES.len()],
+    lists: [Option<Vec<u32>>; LISTS],
+    pub end_line: usize,
+}
+
+impl Sheet {
+    /// The figure, if the text has it.
+    pub fn figure(&self, which: usize) -> Option<u32> {
+        self.figures[which].map(|(value, _)| value)
+    }
+
+    /// The list, or what is wrong where the text has no such column.
+    pub fn list(&mut self, which: usize) -> Result<Vec<u32>, Fault> {
+        let expected = || format!("a table with the column '{}'", column_name(which));
+        self.lists[which]
+            .take()
+            .ok_or_else(|| Fault::at_end(self.end_line, expected()))
+    }
+}
+
+fn column_name(list: usize) -> &'static str {
+    let named = COLUMNS.iter().find(|(_, kind)| *kind == Kind::List(list));
+    named.map_or("", |(name, _)| name)
+}
+
+/// Reads a text.
+pub fn parse(text: &str) -> Result<Sheet, Fault> {
+    let mut sheet = Sheet {
+        end_line: count_lines(text),
+        ..Sheet::default()
+    };
+    let mut lines = lines(text);
+    let mut table = None;
+    for line in lines.by_ref() {
+        match figure_of(&line) {
+            Some(which) => put_figure(&mut sheet, which, &line)?,
+            None => {
+                table = Some(columns(&line)?);
+                break;
+            }
+        }
+    }
+    for column in table.iter().flatten() {
+        if let Kind::List(list) = column {
+            sheet.lists[*list] = Some(Vec::new());
+        }
+    }
+    for line in lines {
+        put_frame(&mut sheet, table.as_deref().unwrap_or_default(), &line)?;
+    }
+    Ok(sheet)
+}
+
+/// The figure that a line names first.
+fn figure_of(line: &Line<'_>) -> Option<usize> {
+    FIGURES
+        .iter()
+        .position(|name| line.cells[0].text.eq_ignore_ascii_case(name))
+}
+
+fn put_figure(sheet: &mut Sheet, which: usize, line: &Line<'_>) -> Result<(), Fault> {
+    if let Some((_, before)) = sheet.figures[which] {
+        let expected = format!("'{}' once (it stands in line {before})", FIGURES[which]);
+        return Err(unlike(line, 0, &expected));
+    }
+    sheet.figures[which] = Some((number(line, 1)?, line.number));
+    ends(line, 2)
+}
+
+/// The columns that a line names, each once.
+fn columns(line: &Line<'_>) -> Result<Vec<Kind>, Fault> {
+    let mut places = Vec::new();
+    for (i, cell) in line.cells.iter().enumerate() {
+        let place = COLUMNS
+            .iter()
+            .position(|(name, _)| cell.text.eq_ignore_ascii_case(name));
+        match place {
+            Some(place) if !places.contains(&place) => places.push(place),
+            _ => return Err(unlike(line, i, &expected_name(i == 0, &places))),
+        }
+    }
+    Ok(places.into_iter().map(|place| COLUMNS[place].1).collect())
+}
+
+/// The names that may stand at the beginning of a line, or behind the columns already named.
+fn expected_name(begins: bool, named: &[usize]) -> String {
+    let columns = COLUMNS.iter().enumerate().filter(|(place, _)| !named.contains(place));
+    let columns: Vec<&str> = columns.map(|(_, (name, _))| *name).collect();
+    let figures = if begins {
+        format!("a figure ({}) or ", FIGURES.join(", "))
+    } else {
+        String::new()
+    };
+    format!("{figures}a column ({})", columns.join(", "))
+}
+
+/// Puts a frame's cells into the lists of their columns.
+fn put_frame(sheet: &mut Sheet, columns: &[Kind], line: &Line<'_>) -> Result<(), Fault> {
+    for (i, column) in columns.iter().enumerate() {
+        if let Kind::List(list) = column {
+            let value = number(line, i)?;
+            sheet.lists[*list].get_or_insert_with(Vec::new).push(value);
+        }
+    }
+    ends(line, columns.len())
+}
+
+/// Reads bare numbers, however many stand in a line; none where the text does not begin with a number.
+pub fn bare_numbers(text: &str) -> Result<Option<Vec<u32>>, Fault> {
+    let mut list = Vec::new();
+    for line in lines(text) {
+        if list.is_empty() && !line.cells[0].text.starts_with(|c: char| c.is_ascii_digit()) {
+            return Ok(None);
+        }
+        for i in 0..line.cells.len() {
+            list.push(number(&line, i)?);
+        }
+    }
+    Ok((!list.is_empty()).then_some(list))
+}
+
+/// The whole number in a line's cell, digits alone.
+fn number(line: &Line<'_>, i: usize) -> Result<u32, Fault> {
+    let text = line.cells.get(i).map_or("", |cell| cell.text);
+    let digits = !text.is_empty() && text.bytes().all(|b| b.is_ascii_digit());
+    let value = if digits { text.parse().ok() } else { None };
+    value.ok_or_else(|| unlike(line, i, &format!("a whole number up to {}", u32::MAX)))
+}
+
+/// A line has no more cells than these.
+fn ends(line: &Line<'_>, cells: usize) -> Result<(), Fault> {
+    match line.cells.get(cells) {
+        None => Ok(()),
+        Some(_) => Err(unlike(line, cells, END_OF_LINE)),
+    }
+}
+
+/// The fault of a line's cell.
+fn unlike(line: &Line<'_>, i: usize, expected: &str) -> Fault {
+    let (column, found) = match line.cells.get(i) {
+        Some(Cell { column, text: "" }) => (*column, "nothing".to_string()),
+        Some(Cell { column, text }) => (*column, quoted(text)),
+        None => (line.end, END_OF_LINE.to_string()),
+    };
+    Fault {
+        line: line.number,
+        column,
+        expected: expected.to_string(),
+        found,
+    }
+}
+
+#[cfg(test)]
+mod tests {
+    use super::*;
+
+    const DAY: &str = "capacity 5\nstart 2\nend 2\nharvest\n6\n4      # noon\n";
+
+    fn said(text: &str) -> (Option<u32>, Option<u32>, Option<u32>, Vec<u32>) {
+        let mut sheet = parse(text).unwrap();
+        let harvest = sheet.list(HARVEST).unwrap();
+        (sheet.figure(CAPACITY), sheet.figure(START), sheet.figure(END), harvest)
+    }
+
+    fn fault(text: &str) -> String {
+        let listed = parse(text).and_then(|mut sheet| sheet.list(HARVEST));
+        listed.unwrap_err().to_string()
+    }
+
+    #[test]
+    fn one_request_in_every_dress() {
+        let day = said(DAY);
+        assert_eq!(day, (Some(5), Some(2), Some(2), vec![6, 4]));
+        for text in [
+            "\u{feff}capacity 5\r\nstart 2\r\nend 2\r\nharvest\r\n6\r\n4",
+            "capacity,5\nstart,2\nend,2\nharvest\n6\n4\n",
+            "capacity;5;\n\"start\";2;\nend;2;\nharvest;;\n6;;\n4;;\n;;\n",
+            "# a day\n\nEND 2\nCapacity\t5 # Wh\nstart 002\n\nHarvest\n\n6\n\n4",
+            "capacity 5\rstart 2\rend 2\rharvest\r6\r4\r",
+            "capacity 5\nstart 2\nend 2\ntime,harvest,charge\n06:00,6,-3\n06:15,4\n",
+        ] {
+            assert_eq!(said(text), day, "{text:?}");
+        }
+        assert_eq!(said("harvest\n"), (None, None, None, vec![]));
+    }
+
+    #[test]
+    fn faults_name_their_place() {
+        let number = "a whole number up to 4294967295 is expected, found";
+        assert_eq!(fault("capacity 5\nstart 2\nend x\n"), format!("3:5: {number} 'x'"));
+        assert_eq!(fault("capacity\n"), format!("1:9: {number} the end of the line"));
+        assert_eq!(fault("capacity 4294967296"), format!("1:10: {number} '4294967296'"));
+        assert_eq!(fault("capacity -1"), format!("1:10: {number} '-1'"));
+        assert_eq!(
+            fault("capacity 5 6"),
+            "1:12: the end of the line is expected, found '6'"
+        );
+        assert_eq!(
+            fault("capacity 5\n\ncapacity 6"),
+            "3:1: 'capacity' once (it stands in line 1) is expected, found 'capacity'"
+        );
+        assert_eq!(fault("harvest\n6 4"), "2:3: the end of the line is expected, found '4'");
+        assert_eq!(fault("harvest\n1.5"), format!("2:1: {number} '1.5'"));
+        assert_eq!(
+            fault("time,harvest\n,\n06:00,,"),
+            format!("3:8: {number} the end of the line")
+        );
+        assert_eq!(fault("harvest,budget\n,3"), format!("2:1: {number} nothing"));
+        assert_eq!(fault("harvest\n6\nend 2"), format!("3:1: {number} 'end'"));
+        let names = "a figure (capacity, start, end) or a column (harvest, budget, frame, time, charge)";
+        assert_eq!(fault("harvst\n6"), format!("1:1: {names} is expected, found 'harvst'"));
+        assert_eq!(fault("5\n6"), format!("1:1: {names} is expected, found '5'"));
+        assert_eq!(
+            fault("harvest,harvest\n"),
+            "1:9: a column (budget, frame, time, charge) is expected, found 'harvest'"
+        );
+        let table = "a table with the column 'harvest' is expected, found the end of the text";
+        assert_eq!(fault(""), format!("1:1: {table}"));
+        assert_eq!(fault("capacity 5\n"), format!("2:1: {table}"));
+        assert_eq!(fault("budget\n5"), format!("2:1: {table}"));
+    }
+
+    #[test]
+    fn long_and_strange_finds_are_shown_short() {
+        let found = fault(&format!("capacity {}", "\u{1}x".repeat(40)));
+        assert!(
+            found.ends_with("...'") && found.contains("\\u{1}x") && found.len() < 160,
+            "{found}"
+        );
+    }
+
+    #[test]
+    fn bare_lists() {
+        assert_eq!(bare_numbers("4 4,4\n# none\n4 2 2"), Ok(Some(vec![4, 4, 4, 4, 2, 2])));
+        assert_eq!(bare_numbers("budget\n4"), Ok(None));
+        assert_eq!(bare_numbers(" # none"), Ok(None));
+        assert_eq!(
+            bare_numbers("4\n4 x").unwrap_err().to_string().split(" is").next(),
+            Some("2:3: a whole number up to 4294967295")
+        );
+    }
+}
