@@ -217,7 +217,7 @@ impl<'a> Words<'a> {
             return Err("a list begins with [".to_string());
         }
         let mut list = Vec::new();
-        while self.0.peek().is_some_and(|&word| word != "]") {
+        while self.0.peek().map_or(false, |&word| word != "]") {
             list.push(self.number()?);
         }
         self.word()?;

@@ -107,8 +107,9 @@ fn check_write(energy: &dyn Energy, figures: Figures, harvest: &[u32], room: usi
         "write",
     )?;
     let mut file = vec![OLD_BYTE; room];
-    let Ok(length) = energy.write(figures, harvest, &mut file) else {
-        return Ok(());
+    let length = match energy.write(figures, harvest, &mut file) {
+        Ok(length) => length,
+        Err(_) => return Ok(()),
     };
     let mut back = vec![OLD_BUDGET; harvest.len() + 3];
     let read = energy
@@ -127,7 +128,7 @@ fn old_budgets(length: usize) -> Vec<u32> {
 
 /// Where a part lies in a list, in entries.
 fn position(part: &[u32], list: &[u32]) -> usize {
-    (part.as_ptr() as usize).wrapping_sub(list.as_ptr() as usize) / size_of::<u32>()
+    (part.as_ptr() as usize).wrapping_sub(list.as_ptr() as usize) / std::mem::size_of::<u32>()
 }
 
 /// One call on any record.
@@ -161,8 +162,9 @@ fn check_on(energy: &dyn Energy, shift: Shift, call: &Call) -> Checked {
 fn check_run(energy: &dyn Energy, figures: Figures, harvest: &[u32], calls: &[Call]) -> Checked {
     let started = energy.shift_start(figures, harvest);
     same("start", started, Reference.shift_start(figures, harvest))?;
-    let Ok(mut shift) = started else {
-        return Ok(());
+    let mut shift = match started {
+        Ok(shift) => shift,
+        Err(_) => return Ok(()),
     };
     let mut log = Logbook::open(figures, harvest);
     let mut given = old_budgets(harvest.len());

@@ -61,7 +61,7 @@ impl Family {
             Family::Alternating => frame.map(|i| if i % 2 == 0 { most } else { 0 }).collect(),
             Family::Constant => vec![most / 2; frames],
             Family::StartChargeOnly => vec![0; frames],
-            Family::Staircase => frame.map(|i| share(i / 16 + 1, frames.div_ceil(16))).collect(),
+            Family::Staircase => frame.map(|i| share(i / 16 + 1, (frames + 15) / 16)).collect(),
         }
     }
 }

@@ -296,15 +296,16 @@ fn sized_file(random: &mut Random) -> Vec<u8> {
 
 /// One damage: a bit, a byte, a cut, surplus, or two words exchanged.
 fn damage(bytes: &mut Vec<u8>, random: &mut Random) {
-    let Some(last) = bytes.len().checked_sub(1) else {
-        return;
+    let last = match bytes.len().checked_sub(1) {
+        Some(last) => last,
+        None => return,
     };
     let place = random.up_to(last as u64) as usize;
     match random.up_to(5) {
         0 => bytes[place] ^= 1 << random.up_to(7),
         1 => bytes[place] = random.bits() as u8,
         2 => bytes.truncate(place),
-        3 => bytes.extend(std::iter::repeat_n(0, 1 + random.up_to(8) as usize)),
+        3 => bytes.extend(vec![0; 1 + random.up_to(8) as usize]),
         4 => bytes
             .iter_mut()
             .skip(place | 3)

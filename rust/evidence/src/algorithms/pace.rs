@@ -50,7 +50,7 @@ fn fails(level: u64, short: u64, frames: usize) -> Outcome {
     Outcome {
         goes: false,
         spare: 0,
-        hint: level.saturating_sub(short.div_ceil(frames as u64 + 1)),
+        hint: level.saturating_sub((short + frames as u64) / (frames as u64 + 1)),
     }
 }
 
@@ -97,7 +97,7 @@ impl Store<'_> {
                 (0, false) => survey(self.capacity, self.end, &self.harvest[next..], have),
                 (1, true) => good + 1,
                 (0..=7, _) => outcome.hint + 1,
-                _ => good + (top - good).div_ceil(2),
+                _ => good + (top - good + 1) / 2,
             };
             tries += 1;
         }
@@ -183,7 +183,7 @@ impl Store<'_> {
 
 /// The greatest budget that, with one unit less in every later frame, takes no more than the sum in so many frames.
 fn even(sum: u64, frames: u64) -> u64 {
-    sum.div_ceil(frames)
+    (sum + frames - 1) / frames
 }
 
 /// The budget of a frame that has `have` and is followed by the harvests, from one pass: the least even budget that empties

@@ -8,8 +8,17 @@ use evidence::random::{seed, Random};
 use evidence::reference::curves::grade;
 use evidence::reference::limits::MAX_FILE_BYTES;
 use evidence::under_test;
-use std::hint::black_box;
 use std::time::{Duration, Instant};
+
+/// Keeps a value from being computed beforehand or left out.
+fn black_box<T>(value: T) -> T {
+    // SAFETY: the value is read once, and the one it was read from is forgotten.
+    unsafe {
+        let read = std::ptr::read_volatile(&value);
+        std::mem::forget(value);
+        read
+    }
+}
 
 /// The numbers of frames measured: a day, half a week, a week, half a month, a month of quarter hours.
 const FRAMES: [usize; 5] = [96, 336, 672, 1_488, 2_976];

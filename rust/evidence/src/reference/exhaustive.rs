@@ -13,13 +13,15 @@ pub fn feasible_assignments(capacity: u64, start: u64, end: u64, harvest: &[u32]
 
 /// Adds every feasible assignment that begins with the given budgets; `harvest` is that of the frames left.
 fn extend(capacity: u64, charge: u64, end: u64, harvest: &[u32], budgets: &mut Vec<u32>, all: &mut Vec<Vec<u32>>) {
-    let Some((&first, rest)) = harvest.split_first() else {
-        if charge >= end {
-            all.push(budgets.clone());
+    let (have, rest) = match harvest.split_first() {
+        Some((&first, rest)) => (charge + u64::from(first), rest),
+        None => {
+            if charge >= end {
+                all.push(budgets.clone());
+            }
+            return;
         }
-        return;
     };
-    let have = charge + u64::from(first);
     for budget in 0..=have {
         budgets.push(budget as u32);
         extend(capacity, capacity.min(have - budget), end, rest, budgets, all);

@@ -1,6 +1,6 @@
 //! Budgets with the charges that they lead to, as a table and as a picture.
 
-use crate::chart::Picture;
+use crate::chart::{svg, Picture};
 use crate::cli::ReportArguments;
 use crate::failure::Failure;
 use crate::files::print;
@@ -48,7 +48,7 @@ impl<'a> Budgets<'a> {
     /// Shows table, CSV or picture as the arguments ask; the words close the table.
     pub fn show(&self, report: &ReportArguments, title: &str, words: &str) -> Result<(), Failure> {
         if let Some(place) = &report.chart {
-            place.write(self.picture(title).svg().as_bytes())?;
+            place.write(svg(&self.picture(title)).as_bytes())?;
         }
         if report.draws_on_standard_output() {
             Ok(())

@@ -1,7 +1,7 @@
 //! `shift`: a running shift over its journal.
 
 use super::budgets::Budgets;
-use crate::chart::Picture;
+use crate::chart::{svg, Picture};
 use crate::cli::{JournalArguments, OutputArguments, ShiftCommand};
 use crate::failure::Failure;
 use crate::files::print;
@@ -173,5 +173,5 @@ fn chart(running: &Running, output: &OutputArguments) -> Result<(), Failure> {
         charges: &charges,
         recorded: running.recorded.len(),
     };
-    output.output.write(picture.svg().as_bytes())
+    output.output.write(svg(&picture).as_bytes())
 }

@@ -1,0 +1,91 @@
+//! How each thing looks, on the plot and in the legend alike, in units of the page.
+//!
+//! Lines that coincide stay apart by their widths: the narrower one lies on the wider one.
+
+use super::{Drawn, Page};
+use plotters::prelude::*;
+
+const CHARGE: RGBColor = RGBColor(11, 60, 93);
+const CAPACITY: RGBColor = RGBColor(165, 165, 165);
+const NEEDED: RGBColor = RGBColor(178, 45, 30);
+const HARVEST: RGBColor = RGBColor(238, 166, 32);
+const RECORDED: RGBColor = RGBColor(232, 232, 232);
+const NOW: RGBColor = RGBColor(95, 95, 95);
+const OVERDRAWN: RGBColor = RGBColor(205, 70, 50);
+
+const DASH: i32 = 75;
+const GAP: i32 = 50;
+const DIAMOND: i32 = 42;
+/// The most frames that are wide enough for a dot each.
+const MOST_DOTS: usize = 48;
+
+pub type Point = (i32, i32);
+
+pub fn charge_line(page: &Page<'_>, points: &[Point], frames: usize) -> Drawn {
+    page.draw(&PathElement::new(points, CHARGE.stroke_width(line_width(frames))))
+}
+
+pub fn charge_dots(page: &Page<'_>, points: &[Point], frames: usize) -> Drawn {
+    let dotted = if frames <= MOST_DOTS { points } else { &[] };
+    dotted
+        .iter()
+        .try_for_each(|&point| page.draw(&Circle::new(point, 24, CHARGE.filled())))
+}
+
+pub fn charge_area(page: &Page<'_>, corners: &[Point]) -> Drawn {
+    page.draw(&Polygon::new(corners, CHARGE.mix(0.16)))
+}
+
+pub fn overdrawn_area(page: &Page<'_>, corners: &[Point]) -> Drawn {
+    page.draw(&Polygon::new(corners, OVERDRAWN.mix(0.5)))
+}
+
+pub fn capacity_line(page: &Page<'_>, from: Point, to: Point) -> Drawn {
+    page.draw(&PathElement::new([from, to], CAPACITY.stroke_width(30)))
+}
+
+/// A level line of dashes.
+pub fn needed_line(page: &Page<'_>, (left, y): Point, (right, _): Point) -> Drawn {
+    (left..right).step_by((DASH + GAP) as usize).try_for_each(|start| {
+        let dash = [(start, y), (right.min(start + DASH), y)];
+        page.draw(&PathElement::new(dash, NEEDED.stroke_width(19)))
+    })
+}
+
+pub fn end_diamond(page: &Page<'_>, (x, y): Point) -> Drawn {
+    let (left, right) = ((x - DIAMOND, y), (x + DIAMOND, y));
+    let (top, bottom) = ((x, y - DIAMOND), (x, y + DIAMOND));
+    page.draw(&PathElement::new(
+        [left, top, right, bottom, left, top],
+        BLACK.stroke_width(10),
+    ))
+}
+
+pub fn zero_line(page: &Page<'_>, from: Point, to: Point) -> Drawn {
+    page.draw(&PathElement::new([from, to], BLACK.stroke_width(6)))
+}
+
+pub fn now_line(page: &Page<'_>, from: Point, to: Point) -> Drawn {
+    page.draw(&PathElement::new([from, to], NOW.stroke_width(10)))
+}
+
+pub fn recorded_block(page: &Page<'_>, corner: Point, opposite: Point) -> Drawn {
+    page.draw(&Rectangle::new([corner, opposite], RECORDED.filled()))
+}
+
+pub fn harvest_bars(page: &Page<'_>, corners: &[Point]) -> Drawn {
+    page.draw(&Polygon::new(corners, HARVEST))
+}
+
+pub fn budget_steps(page: &Page<'_>, points: &[Point], frames: usize) -> Drawn {
+    page.draw(&PathElement::new(points, BLACK.stroke_width(line_width(frames))))
+}
+
+/// Lines get thinner as the frames get narrower.
+fn line_width(frames: usize) -> u32 {
+    match frames {
+        0..=120 => 13,
+        121..=1000 => 10,
+        _ => 7,
+    }
+}

@@ -1,0 +1,298 @@
+//! Draws a plan on a page: the charge above, harvest and budgets below.
+
+mod legend;
+mod marks;
+mod panel;
+mod scale;
+mod title;
+
+use legend::Legend;
+use panel::Panel;
+use plotters::coord::Shift;
+use plotters::prelude::*;
+use plotters::style::text_anchor::{HPos, Pos, VPos};
+use scale::Scale;
+
+/// A4 landscape in twentieths of a millimetre: each of 2,976 frames is at least one unit wide.
+const PAGE: (u32, u32) = (5940, 4200);
+const MARGIN: i32 = 170;
+const TITLE_ROW: i32 = 200;
+const SPACE_ROW: i32 = 95;
+const FOOT_ROW: i32 = 95;
+const LETTER: f64 = 66.0;
+/// Text that the backend centres stands too high by this.
+const LIFT: i32 = 7;
+
+type Page<'a> = DrawingArea<SVGBackend<'a>, Shift>;
+type Failure = DrawingAreaErrorKind<std::io::Error>;
+type Drawn = Result<(), Failure>;
+
+/// What a picture shows: one entry of each list for each frame.
+pub struct Picture<'a> {
+    pub title: &'a str,
+    pub capacity: u32,
+    /// The needed capacity, where it is known.
+    pub needed: Option<u64>,
+    /// The charge before frame 1.
+    pub start: u32,
+    /// The charge that is asked for after the last frame.
+    pub end: u32,
+    pub harvest: &'a [u32],
+    pub budgets: &'a [u32],
+    /// The charge after each frame; below zero where supplied budgets overdraw the battery.
+    pub charges: &'a [i64],
+    /// Frames 1 to `recorded` happened (a running shift: actual harvest, use and charge); the
+    /// later ones are planned. 0 for a plan.
+    pub recorded: usize,
+}
+
+/// The picture as an SVG text.
+pub fn svg(picture: &Picture<'_>) -> String {
+    let mut text = String::new();
+    let page = SVGBackend::with_string(&mut text, PAGE).into_drawing_area();
+    draw(&page, &picture.trimmed()).expect("a string takes every drawing");
+    drop(page);
+    sized_for_paper(&text)
+}
+
+impl<'a> Picture<'a> {
+    /// The picture with lists of one length, that of the shortest.
+    fn trimmed(&self) -> Picture<'a> {
+        let frames = self.frames();
+        Picture {
+            harvest: &self.harvest[..frames],
+            budgets: &self.budgets[..frames],
+            charges: &self.charges[..frames],
+            recorded: self.recorded.min(frames),
+            ..*self
+        }
+    }
+
+    fn frames(&self) -> usize {
+        self.harvest.len().min(self.budgets.len()).min(self.charges.len())
+    }
+
+    fn is_overdrawn(&self) -> bool {
+        self.charges.iter().any(|&charge| charge < 0)
+    }
+}
+
+fn draw(page: &Page<'_>, picture: &Picture<'_>) -> Drawn {
+    let charge_scale = Scale::of_charges(picture);
+    let energy_scale = Scale::of_energy(picture);
+    let left = charge_scale.label_width().max(energy_scale.label_width());
+    let charge_legend = Legend::of_charges(picture, &charge_scale);
+    let energy_legend = Legend::of_energy(picture);
+
+    page.fill(&WHITE)?;
+    let mut rest = page.margin(MARGIN, MARGIN, MARGIN, MARGIN);
+    title::draw(&cut_row(&mut rest, TITLE_ROW), picture.title)?;
+    charge_legend.draw(&cut_row(&mut rest, charge_legend.height()))?;
+    cut_row(&mut rest, SPACE_ROW);
+    let panels = height(&rest) - energy_legend.height() - 2 * SPACE_ROW - FOOT_ROW;
+    let area = cut_row(&mut rest, panels * 55 / 100);
+    Panel::with_axes(page, &area, picture, charge_scale, left)?.draw_charges()?;
+    cut_row(&mut rest, SPACE_ROW);
+    energy_legend.draw(&cut_row(&mut rest, energy_legend.height()))?;
+    cut_row(&mut rest, SPACE_ROW);
+    let area = cut_row(&mut rest, panels * 45 / 100);
+    Panel::with_axes(page, &area, picture, energy_scale, left)?.draw_energy()?;
+    name_frame_axis(&rest.margin(0, 0, left, 0))
+}
+
+fn name_frame_axis(foot: &Page<'_>) -> Drawn {
+    let style = text_style(LETTER).pos(Pos::new(HPos::Center, VPos::Bottom));
+    let middle = foot.dim_in_pixel().0 as i32 / 2;
+    foot.draw_text("frame (quarter hours)", &style, (middle, height(foot)))
+}
+
+/// Cuts a row off the top of the area.
+fn cut_row<'a>(area: &mut Page<'a>, height: i32) -> Page<'a> {
+    let (row, rest) = area.split_vertically(height);
+    *area = rest;
+    row
+}
+
+fn height(area: &Page<'_>) -> i32 {
+    area.dim_in_pixel().1 as i32
+}
+
+/// Text in letters of this size: the backend divides the size of a font by 1.24.
+fn text_style<'a>(letter: f64) -> TextStyle<'a> {
+    ("sans-serif", letter * 1.24).into_font().into()
+}
+
+/// The page measured in millimetres instead of units.
+fn sized_for_paper(svg: &str) -> String {
+    let units = format!("width=\"{}\" height=\"{}\"", PAGE.0, PAGE.1);
+    svg.replacen(&units, "width=\"297mm\" height=\"210mm\"", 1)
+}
+
+#[cfg(test)]
+mod tests {
+    use super::*;
+
+    const PLAN: Picture<'static> = Picture {
+        title: "plan",
+        capacity: 5,
+        needed: Some(6),
+        start: 3,
+        end: 3,
+        harvest: &[0, 2, 7, 4, 1, 0],
+        budgets: &[2, 2, 3, 3, 2, 1],
+        charges: &[1, 1, 5, 5, 4, 3],
+        recorded: 0,
+    };
+
+    /// A picture of so many frames with the same values in each of them.
+    fn even_svg(frames: usize, (harvest, budget, charge): (u32, u32, i64), rest: Picture) -> String {
+        svg(&Picture {
+            harvest: &vec![harvest; frames],
+            budgets: &vec![budget; frames],
+            charges: &vec![charge; frames],
+            ..rest
+        })
+    }
+
+    /// The points of each line and area.
+    fn outlines(svg: &str) -> Vec<Vec<(i32, i32)>> {
+        let lists = svg.split("points=\"").skip(1).filter_map(|rest| rest.split('"').next());
+        lists
+            .map(|points| points.split_whitespace().map(point).collect())
+            .collect()
+    }
+
+    fn point(text: &str) -> (i32, i32) {
+        let (x, y) = text.split_once(',').expect("a comma between two coordinates");
+        (x.parse().expect("a whole number"), y.parse().expect("a whole number"))
+    }
+
+    fn assert_well_formed(svg: &str) {
+        assert!(svg.starts_with("<svg ") && svg.ends_with("</svg>\n"));
+        assert_eq!(svg.matches("<text ").count(), svg.matches("</text>").count());
+        assert_eq!(svg.matches('<').count(), svg.matches('>').count());
+        let forbidden = |c: char| (c.is_control() && c != '\n') || "\u{fffe}\u{ffff}".contains(c);
+        assert!(!svg.contains(forbidden), "a character that XML forbids");
+        let escapes = ["amp;", "lt;", "gt;", "quot;", "apos;"];
+        let escaped = |rest: &str| escapes.iter().any(|escape| rest.starts_with(escape));
+        assert!(svg.split('&').skip(1).all(escaped), "a bare ampersand");
+    }
+
+    #[test]
+    fn hostile_titles_are_escaped() {
+        for title in [
+            "",
+            "a<b>&.txt",
+            "</text>\"'",
+            "\0\u{1b}[31m\n\t\u{7f}\u{85}",
+            "\u{fffe}\u{ffff}",
+            "ü計🌶",
+        ] {
+            assert_well_formed(&svg(&Picture { title, ..PLAN }));
+        }
+        let text = svg(&Picture {
+            title: "a<b>&.txt",
+            ..PLAN
+        });
+        assert!(text.contains("\na&lt;b&gt;&amp;.txt\n"));
+    }
+
+    #[test]
+    fn legend_names_the_values() {
+        let text = svg(&PLAN);
+        for name in [
+            "\ncapacity 5 Wh\n",
+            "\nneeded capacity 6 Wh\n",
+            "\nasked-for end charge 3 Wh\n",
+            "\ncharge after each frame (3 Wh at the start)\n",
+            "\nharvest in each frame (14 Wh in all)\n",
+            "\nbudget of each frame (13 Wh in all)\n",
+        ] {
+            assert!(text.contains(name), "{name}");
+        }
+        assert!(!svg(&Picture { needed: None, ..PLAN }).contains("needed"));
+    }
+
+    #[test]
+    fn lines_far_above_are_only_named() {
+        let text = svg(&Picture {
+            capacity: 1_000_000_000,
+            ..PLAN
+        });
+        assert!(text.contains("\ncapacity 1,000,000,000 Wh (above the picture)\n"));
+        assert!(text.contains("\nneeded capacity 6 Wh\n"));
+    }
+
+    #[test]
+    fn each_frame_has_a_bar_and_a_step() {
+        for frames in [0, 1, 6, 96, 672, 2976] {
+            let outlines = outlines(&even_svg(frames, (7, 5, 9), PLAN));
+            let lower = &outlines[outlines.len() - 2..];
+            assert_eq!(lower[0].len(), 4 * frames, "bars");
+            assert_eq!(lower[1].len(), 2 * frames, "steps");
+            assert!(lower[0].chunks(4).all(|bar| bar[0].0 < bar[2].0), "a bar without width");
+        }
+    }
+
+    #[test]
+    fn a_running_shift_names_its_parts() {
+        let text = svg(&Picture { recorded: 2, ..PLAN });
+        assert!(text.contains("\nrecorded up to frame 2, planned from frame 3\n"));
+        assert!(text.contains("\nnow\n"));
+        assert!(text.contains("\nuse up to now, then budget (13 Wh in all)\n"));
+        let text = svg(&Picture { recorded: 99, ..PLAN });
+        assert!(text.contains("\nrecorded up to frame 6, the last\n"));
+        assert!(!svg(&PLAN).contains("recorded"));
+    }
+
+    #[test]
+    fn the_shortest_list_counts() {
+        let text = svg(&Picture {
+            charges: &[1, 1],
+            ..PLAN
+        });
+        assert!(text.contains("\nharvest in each frame (2 Wh in all)\n"));
+    }
+
+    #[test]
+    fn extremes_stay_on_the_page() {
+        let none = Picture {
+            capacity: 0,
+            needed: Some(0),
+            start: 0,
+            end: 0,
+            ..PLAN
+        };
+        let most = || Picture {
+            capacity: u32::MAX,
+            needed: Some(u64::MAX),
+            start: u32::MAX,
+            end: u32::MAX,
+            recorded: 1000,
+            ..PLAN
+        };
+        let pictures = [
+            even_svg(0, (0, 0, 0), PLAN),
+            even_svg(6, (0, 0, 0), none),
+            even_svg(1, (u32::MAX, 0, i64::MAX), most()),
+            even_svg(2976, (400_000, u32::MAX, -13_000_000_000_000), most()),
+            even_svg(2976, (0, u32::MAX, i64::MIN), PLAN),
+            svg(&Picture {
+                charges: &[i64::MIN, i64::MAX, 0, -1],
+                ..most()
+            }),
+        ];
+        let inside = |&(x, y): &(i32, i32)| (1..5940).contains(&x) && (1..4200).contains(&y);
+        for picture in pictures {
+            assert_well_formed(&picture);
+            assert!(outlines(&picture).iter().flatten().all(inside));
+        }
+    }
+
+    #[test]
+    fn a_week_is_small_and_always_the_same() {
+        let week = || even_svg(672, (4_999, 2_500, 88_888), PLAN);
+        assert!(week().len() < 300_000);
+        assert_eq!(week(), week());
+    }
+}
