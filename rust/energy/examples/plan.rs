@@ -1,5 +1,5 @@
 //! Plans document 01's request, records a frame that went otherwise, and plans the rest again.
-//! Run: `cargo run --example plan` in rust/energy, after `rt staticlib energy`.
+//! Run: `rust/cargo run -p energy --example plan`, after `rt staticlib energy`.
 
 use energy::{Energy, Figures, Linked, Refusal};
 

@@ -79,7 +79,7 @@ pub fn check(energy: &dyn Energy, case: &Case) -> Checked {
 pub fn expect(energy: &dyn Energy, case: &Case) {
     if let Err(difference) = check(energy, case) {
         panic!(
-            "{} differs: {difference}\nrun it again: ENERGY_CASE='{case}' cargo test --test rerun",
+            "{} differs: {difference}\nrun it again: ENERGY_CASE='{case}' rust/cargo test -p evidence --test rerun",
             energy.name()
         );
     }

@@ -1,4 +1,4 @@
-//! Random cases through every implementation, compared with the reference. Another seed: `ENERGY_SEED=7 cargo test`.
+//! Random cases through every implementation, compared with the reference. Another seed: `ENERGY_SEED=7 rust/cargo test`.
 
 use energy::{Energy, Refusal, Rest, Verdict};
 use evidence::cases::{Call, Case};

@@ -17,7 +17,7 @@ fn compare(figures: Figures, harvest: &[u32], method: PlanMethod) {
     for energy in under_test() {
         let again = |case: Case| {
             format!(
-                "{}; run it again: ENERGY_CASE='{case}' cargo test --test rerun",
+                "{}; run it again: ENERGY_CASE='{case}' rust/cargo test -p evidence --test rerun",
                 energy.name()
             )
         };

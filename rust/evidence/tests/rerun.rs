@@ -1,4 +1,4 @@
-//! One printed case again: `ENERGY_CASE='plan 5 2 2 [6 4 0 0 5 5] 6' cargo test --test rerun`.
+//! One printed case again: `ENERGY_CASE='plan 5 2 2 [6 4 0 0 5 5] 6' rust/cargo test -p evidence --test rerun`.
 
 use evidence::cases::Case;
 use evidence::check::expect;

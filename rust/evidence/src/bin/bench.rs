@@ -1,4 +1,4 @@
-//! Benchmarks: `cargo run --release --bin bench`. Ratios of one run on one machine; times in microseconds, best of several.
+//! Benchmarks: `rust/cargo run --release --bin bench`. Ratios of one run on one machine; times in microseconds, best of several.
 
 use energy::{Energy, Figures};
 use evidence::algorithms::{linear, source};

@@ -1,4 +1,4 @@
-//! Robustness: `cargo run --release --bin robustness [COUNT [FIRST]]`, a million random and mutated files and calls by default.
+//! Robustness: `rust/cargo run --release --bin robustness [COUNT [FIRST]]`, a million random and mutated files and calls by default.
 //!
 //! Every case goes through every implementation and is compared with the reference. A differing answer is printed with
 //! its case and counted; a case that hangs is printed and ends the run. Case N is the same in every run with one seed.
