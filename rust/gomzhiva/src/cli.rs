@@ -70,7 +70,7 @@ pub enum Command {
 #[derive(Args, Debug)]
 #[command(after_help = "Examples:
   gomzhiva plan examples/day.txt
-  gomzhiva plan examples/june.csv --capacity 3000 --start 500 --end 500 --chart june.svg")]
+  gomzhiva plan examples/june.csv --capacity 5000 --start 2500 --end 2500 --chart june.svg")]
 pub struct PlanArguments {
     #[command(flatten)]
     pub request: RequestArguments,

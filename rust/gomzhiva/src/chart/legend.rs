@@ -47,7 +47,7 @@ impl Legend {
             (Mark::End, line("asked-for end charge", picture.end.into())),
         ];
         if let Some(needed) = picture.needed {
-            entries.push((Mark::Needed, line("needed capacity", needed)));
+            entries.push((Mark::Needed, line(needed_name(picture), needed)));
         }
         if picture.recorded > 0 {
             entries.push((Mark::Now, recorded_name(picture)));
@@ -108,6 +108,13 @@ impl Legend {
             Mark::Harvest => marks::harvest_bars(area, &block),
             Mark::Budget => marks::budget_steps(area, &steps, self.frames),
         }
+    }
+}
+
+fn needed_name(picture: &Picture<'_>) -> &'static str {
+    match picture.recorded {
+        0 => "needed capacity",
+        _ => "needed capacity of the rest",
     }
 }
 

@@ -31,7 +31,7 @@ type Drawn = Result<(), Failure>;
 pub struct Picture<'a> {
     pub title: &'a str,
     pub capacity: u32,
-    /// The needed capacity, where it is known.
+    /// The needed capacity, of a running shift that of the frames not yet recorded; none where it has none.
     pub needed: Option<u64>,
     /// The charge before frame 1.
     pub start: u32,

@@ -5,8 +5,8 @@ use crate::chart::{svg, Picture};
 use crate::cli::{JournalArguments, OutputArguments, ShiftCommand};
 use crate::failure::Failure;
 use crate::files::print;
-use crate::journal::{Journal, Purpose, Recorded, Running};
-use crate::report::{counted, frames, mean, sum, Table};
+use crate::journal::{Journal, Purpose, Running};
+use crate::report::{column, counted, frames, mean, sum, Table};
 use crate::request::{Request, RequestArguments};
 use energy::{Energy, Figures, Linked, Refusal, Rest, Shift};
 use std::io::{self, Write};
@@ -75,13 +75,12 @@ fn standing(shift: &Shift) -> String {
 }
 
 fn show(running: &Running, csv: bool) -> Result<(), Failure> {
-    let column = |value: fn(&Recorded) -> u32| running.recorded.iter().map(|r| value(r).into()).collect();
     let table = Table {
         columns: vec![
             ("frame", frames(0, running.recorded.len())),
-            ("harvest", column(|r| r.harvest)),
-            ("use", column(|r| r.used)),
-            ("charge", column(|r| r.charge)),
+            ("harvest", column(&running.column(|r| r.harvest))),
+            ("use", column(&running.column(|r| r.used))),
+            ("charge", column(&running.column(|r| r.charge))),
         ],
     };
     if csv {
@@ -138,40 +137,30 @@ fn rest_words(rest: Rest, running: &Running, traced: &Budgets<'_>) -> String {
     }
 }
 
+/// Draws what was recorded and, behind it, the plan of the rest with its needed capacity.
 fn chart(running: &Running, output: &OutputArguments) -> Result<(), Failure> {
-    let budgets = match running.plan_rest() {
-        Err(Refusal::AllRecorded) => Vec::new(),
-        planned => planned?.1,
+    let rest = rest_request(running);
+    let (budgets, charges) = match running.plan_rest() {
+        Err(Refusal::AllRecorded) => (Vec::new(), Vec::new()),
+        planned => {
+            let traced = Budgets::trace(&rest, planned?.1)?;
+            (traced.budgets, traced.charges)
+        }
     };
-    let planned_charges = match budgets.as_slice() {
-        [] => Vec::new(),
-        _ => Budgets::trace(&rest_request(running), budgets.clone())?.charges,
-    };
-    let recorded = running.recorded.iter();
-    let harvest: Vec<u32> = recorded
-        .clone()
-        .map(|r| r.harvest)
-        .chain(running.rest_harvest().iter().copied())
-        .collect();
-    let budgets: Vec<u32> = recorded.clone().map(|r| r.used).chain(budgets).collect();
-    let charges: Vec<i64> = recorded.map(|r| r.charge.into()).chain(planned_charges).collect();
-    let Shift {
-        capacity, start, end, ..
-    } = running.shift;
+    let harvest = [running.column(|r| r.harvest), rest.harvest].concat();
+    let recorded = running.recorded.len();
     let picture = Picture {
-        title: &format!(
-            "Shift: {} of {} recorded",
-            running.recorded.len(),
-            counted(harvest.len(), "frame")
-        ),
-        capacity,
-        needed: Linked.needed(start, end, &harvest).ok(),
-        start,
-        end,
+        title: &format!("Shift: {recorded} of {} recorded", counted(harvest.len(), "frame")),
+        capacity: rest.figures.capacity,
+        needed: Linked
+            .needed(rest.figures.start, rest.figures.end, running.rest_harvest())
+            .ok(),
+        start: running.shift.start,
+        end: rest.figures.end,
         harvest: &harvest,
-        budgets: &budgets,
-        charges: &charges,
-        recorded: running.recorded.len(),
+        budgets: &[running.column(|r| r.used), budgets].concat(),
+        charges: &[column(&running.column(|r| r.charge)), charges].concat(),
+        recorded,
     };
     output.output.write(svg(&picture).as_bytes())
 }

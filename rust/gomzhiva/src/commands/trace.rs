@@ -7,6 +7,11 @@ use crate::request::read_budgets;
 use energy::Verdict;
 
 pub fn run(arguments: &TraceArguments) -> Result<(), Failure> {
+    if arguments.request.request.is_standard() && arguments.budgets.is_standard() {
+        return Err(Failure::Fault(
+            "gomzhiva: the request and the budgets cannot both be standard input".into(),
+        ));
+    }
     let request = arguments.request.read()?.request()?;
     let traced = Budgets::trace(&request, read_budgets(&arguments.budgets)?)?;
     let title = format!(

@@ -47,6 +47,18 @@ impl Call {
         };
         (call.to_string() == text).then_some(call)
     }
+
+    /// Whether a text is the beginning of a recording, or all of it.
+    pub fn begins_recording(text: &str) -> bool {
+        const NAME: &str = "record ";
+        match text.strip_prefix(NAME) {
+            None => NAME.starts_with(text),
+            Some(rest) => {
+                let figures = rest.split(' ').count() - usize::from(rest.ends_with(' '));
+                figures <= 2 && rest.bytes().all(|b| b == b' ' || b.is_ascii_digit())
+            }
+        }
+    }
 }
 
 #[cfg(test)]
@@ -83,6 +95,17 @@ mod tests {
             "start",
         ] {
             assert_eq!(Call::parse(text), None, "{text:?}");
+        }
+    }
+
+    #[test]
+    fn beginnings_of_a_recording() {
+        for length in 0.."record 12 34 ".len() {
+            let text = &"record 12 34 "[..length];
+            assert!(Call::begins_recording(text), "{text:?}");
+        }
+        for text in ["x", "records", "start", "record x", "record 1 2 3", "record 1 2 3 "] {
+            assert!(!Call::begins_recording(text), "{text:?}");
         }
     }
 }

@@ -5,7 +5,7 @@ mod running;
 mod seal;
 
 pub use call::Call;
-pub use running::{Recorded, Running};
+pub use running::Running;
 
 use crate::failure::Failure;
 use crate::files;
@@ -65,7 +65,7 @@ impl Journal {
 
     /// Runs the call of a line again.
     fn run_again(&mut self, line: &[u8], number: usize) -> Result<(), Failure> {
-        if !line.ends_with(b"\n") && self.seal.is_torn(line) {
+        if !line.ends_with(b"\n") && self.seal.torn(line).map_or(false, Call::begins_recording) {
             self.torn = Some(number);
             return Ok(());
         }

@@ -41,6 +41,11 @@ impl Running {
         Ok(())
     }
 
+    /// One figure of each frame recorded.
+    pub fn column(&self, figure: fn(&Recorded) -> u32) -> Vec<u32> {
+        self.recorded.iter().map(figure).collect()
+    }
+
     /// The budgets of the frames not yet recorded.
     pub fn plan_rest(&self) -> Result<(Rest, Vec<u32>), Refusal> {
         let mut budgets = vec![0; self.forecast.len()];

@@ -28,20 +28,16 @@ impl Seal {
         (expected.as_bytes() == line).then_some((call, seal))
     }
 
-    /// Whether the bytes behind the last line end can be the beginning of a line that was not written whole. A system that
-    /// went down may have left zero bytes in place of the rest.
-    pub fn is_torn(&self, tail: &[u8]) -> bool {
+    /// The call, or its beginning, of a line that was not written whole; none if these bytes are no beginning of a line here.
+    /// A system that went down may have left zero bytes in place of the rest.
+    pub fn torn<'a>(&self, tail: &'a [u8]) -> Option<&'a str> {
         let length = tail.iter().rposition(|&b| b != 0).map_or(0, |last| last + 1);
-        let tail = &tail[..length];
-        match tail.iter().position(|&b| b == b'*') {
-            None => tail
-                .iter()
-                .all(|&b| b == b' ' || b.is_ascii_lowercase() || b.is_ascii_digit()),
-            Some(star) => {
-                let call = std::str::from_utf8(&tail[..star])
-                    .ok()
-                    .and_then(|text| text.strip_suffix(' '));
-                call.map_or(false, |call| self.close(call).0.as_bytes().starts_with(tail))
+        let tail = std::str::from_utf8(&tail[..length]).ok()?;
+        match tail.split_once('*') {
+            None => Some(tail),
+            Some((call, _)) => {
+                let call = call.strip_suffix(' ')?;
+                self.close(call).0.starts_with(tail).then_some(call)
             }
         }
     }
@@ -91,19 +87,27 @@ mod tests {
 
     #[test]
     fn the_beginning_of_a_line_is_torn_and_nothing_else() {
-        for (line, seal) in journal() {
+        for ((line, seal), call) in journal().iter().zip(CALLS) {
             for length in 0..line.len() {
                 let mut tail = line.as_bytes()[..length].to_vec();
-                assert!(seal.is_torn(&tail), "{length} bytes of {line:?}");
+                let begun = seal.torn(&tail).expect("a beginning").to_string();
+                assert!(
+                    begun.trim_end() == call || call.starts_with(&begun),
+                    "{length} bytes of {line:?}"
+                );
                 tail.extend([0; 5]);
-                assert!(seal.is_torn(&tail), "{length} bytes of {line:?} and zeros");
+                assert_eq!(
+                    seal.torn(&tail),
+                    Some(begun.as_str()),
+                    "{length} bytes of {line:?} and zeros"
+                );
             }
-            for change in (1..=255).filter(|change| change ^ b'\n' != 0) {
+            for change in (1..=255).filter(|&change| change != b'\n') {
                 let mut changed = line.clone().into_bytes();
                 *changed.last_mut().unwrap() ^= change;
-                assert!(!seal.is_torn(&changed), "the line end changed by {change}");
+                assert_eq!(seal.torn(&changed), None, "the line end changed by {change}");
             }
         }
-        assert!(!Seal::default().is_torn(b"\xff"));
+        assert_eq!(Seal::default().torn(b"\xff"), None);
     }
 }
