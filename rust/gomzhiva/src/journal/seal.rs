@@ -16,7 +16,7 @@ impl Seal {
         let mut hasher = self.0.clone();
         hasher.update(call.as_bytes());
         let line = format!("{call} *{:08x}\n", hasher.clone().finalize());
-        hasher.update(line[call.len()..].as_bytes());
+        hasher.update(&line.as_bytes()[call.len()..]);
         (line, Seal(hasher))
     }
 

@@ -15,34 +15,25 @@ pub struct Line<'a> {
     pub end: usize,
 }
 
-/// The lines of a text that have a cell, whatever ends a line: LF, CR LF or CR.
-pub fn lines(text: &str) -> impl Iterator<Item = Line<'_>> {
+/// A text without its byte-order mark, and with LF for every line end: CR LF, CR or LF.
+pub fn plain(text: &str) -> String {
     let text = text.strip_prefix('\u{feff}').unwrap_or(text);
-    let mut after_return = false;
-    let mut number = 1;
-    text.split_inclusive(|c| c == '\n' || c == '\r')
-        .filter_map(move |piece| {
-            let joins_return = after_return && piece == "\n";
-            after_return = piece.ends_with('\r');
-            let line = trim_end_of_line(piece);
-            let this = number;
-            number += usize::from(!joins_return);
-            let cells = cells(line);
-            (!cells.is_empty()).then(|| Line {
-                number: this,
-                cells,
-                end: line.chars().count() + 1,
-            })
-        })
+    text.replace("\r\n", "\n").replace('\r', "\n")
 }
 
-fn trim_end_of_line(piece: &str) -> &str {
-    piece.trim_end_matches(|c| c == '\n' || c == '\r')
+/// The lines of a plain text that have a cell.
+pub fn lines(plain: &str) -> impl Iterator<Item = Line<'_>> {
+    let lines = plain.split('\n').enumerate().map(|(i, line)| Line {
+        number: i + 1,
+        cells: cells(line),
+        end: line.chars().count() + 1,
+    });
+    lines.filter(|line| !line.cells.is_empty())
 }
 
-/// How many lines a text has; a text without any has one, which is empty.
-pub fn count_lines(text: &str) -> usize {
-    text.replace("\r\n", "\n").matches(|c| c == '\n' || c == '\r').count() + 1
+/// How many lines a plain text has; a text without any has one, which is empty.
+pub fn count_lines(plain: &str) -> usize {
+    plain.split('\n').count()
 }
 
 /// A cell without text stands between two commas; such cells at the end of a line are left out.
@@ -126,7 +117,7 @@ mod tests {
     #[test]
     fn every_line_end_counts_once() {
         for end in ["\n", "\r\n", "\r"] {
-            let text = ["a", "", "b"].join(end);
+            let text = plain(&["a", "", "b"].join(end));
             let numbers: Vec<usize> = lines(&text).map(|line| line.number).collect();
             assert_eq!(numbers, [1, 3], "{end:?}");
             assert_eq!(count_lines(&text), 3, "{end:?}");

@@ -2,7 +2,7 @@
 //!
 //! A further figure or column that a request may have is one more row of `FIGURES` or `COLUMNS`.
 
-use super::cells::{count_lines, lines, Cell, Line};
+use super::cells::{count_lines, lines, plain, Cell, Line};
 use super::fault::{quoted, Fault, END_OF_LINE};
 
 /// A figure that stands once in a request, by its name.
@@ -59,28 +59,24 @@ fn column_name(list: usize) -> &'static str {
 
 /// Reads a text.
 pub fn parse(text: &str) -> Result<Sheet, Fault> {
+    let text = plain(text);
     let mut sheet = Sheet {
-        end_line: count_lines(text),
+        end_line: count_lines(&text),
         ..Sheet::default()
     };
-    let mut lines = lines(text);
-    let mut table = None;
+    let mut columns = Vec::new();
+    let mut lines = lines(&text);
     for line in lines.by_ref() {
         match figure_of(&line) {
             Some(which) => put_figure(&mut sheet, which, &line)?,
             None => {
-                table = Some(columns(&line)?);
+                columns = open_table(&mut sheet, &line)?;
                 break;
             }
         }
     }
-    for column in table.iter().flatten() {
-        if let Kind::List(list) = column {
-            sheet.lists[*list] = Some(Vec::new());
-        }
-    }
     for line in lines {
-        put_frame(&mut sheet, table.as_deref().unwrap_or_default(), &line)?;
+        put_frame(&mut sheet, &columns, &line)?;
     }
     Ok(sheet)
 }
@@ -101,19 +97,23 @@ fn put_figure(sheet: &mut Sheet, which: usize, line: &Line<'_>) -> Result<(), Fa
     ends(line, 2)
 }
 
-/// The columns that a line names, each once.
-fn columns(line: &Line<'_>) -> Result<Vec<Kind>, Fault> {
+/// The columns that a line names, each once; their lists are there from now on.
+fn open_table(sheet: &mut Sheet, line: &Line<'_>) -> Result<Vec<Kind>, Fault> {
     let mut places = Vec::new();
     for (i, cell) in line.cells.iter().enumerate() {
-        let place = COLUMNS
-            .iter()
-            .position(|(name, _)| cell.text.eq_ignore_ascii_case(name));
-        match place {
+        let named = |(name, _): &(&str, Kind)| cell.text.eq_ignore_ascii_case(name);
+        match COLUMNS.iter().position(named) {
             Some(place) if !places.contains(&place) => places.push(place),
             _ => return Err(unlike(line, i, &expected_name(i == 0, &places))),
         }
     }
-    Ok(places.into_iter().map(|place| COLUMNS[place].1).collect())
+    let columns: Vec<Kind> = places.into_iter().map(|place| COLUMNS[place].1).collect();
+    for column in &columns {
+        if let Kind::List(list) = column {
+            sheet.lists[*list] = Some(Vec::new());
+        }
+    }
+    Ok(columns)
 }
 
 /// The names that may stand at the beginning of a line, or behind the columns already named.
@@ -142,7 +142,7 @@ fn put_frame(sheet: &mut Sheet, columns: &[Kind], line: &Line<'_>) -> Result<(),
 /// Reads bare numbers, however many stand in a line; none where the text does not begin with a number.
 pub fn bare_numbers(text: &str) -> Result<Option<Vec<u32>>, Fault> {
     let mut list = Vec::new();
-    for line in lines(text) {
+    for line in lines(&plain(text)) {
         if list.is_empty() && !line.cells[0].text.starts_with(|c: char| c.is_ascii_digit()) {
             return Ok(None);
         }
