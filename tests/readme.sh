@@ -30,6 +30,7 @@ compare_last() {
 }
 
 "$root/bin/gomzhiva" --version >"$folder/build" 2>&1 || { cat "$folder/build"; echo '0 passed, 1 failed'; exit 1; }
+built=$(stat -c %y.%i target/gomzhiva.built)
 inside=0
 while IFS= read -r line; do
     case $inside$line in
@@ -42,6 +43,7 @@ done <README.md
 
 cmp "$folder/docs/june.svg" docs/june.svg
 check 'the picture in docs/' 0 $?
+check 'a built program is not built again' "$built" "$(stat -c %y.%i target/gomzhiva.built)"
 
 printf '%d passed, %d failed\n' "$passed" "$failed"
 [ "$failed" -eq 0 ] && [ "$passed" -gt 10 ]

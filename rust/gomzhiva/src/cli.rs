@@ -8,13 +8,16 @@ use std::path::PathBuf;
 /// Plans the energy of a solar-powered blending room: one list of budgets, a number of watt-hours for each frame,
 /// that is feasible and best for every concave, never falling reward curve at once.
 #[derive(Parser, Debug)]
-#[command(name = "gomzhiva", version, after_help = STATUS_HELP)]
+#[command(name = "gomzhiva", version, after_help = HELP)]
 pub struct Cli {
     #[command(subcommand)]
     pub command: Command,
 }
 
-const STATUS_HELP: &str = "\
+const HELP: &str = "\
+Example:
+  gomzhiva plan examples/day.txt
+
 A request as text:
   capacity 5       # watt-hours; '#' begins a comment
   start 2
@@ -27,6 +30,12 @@ so is a table alone, with --capacity, --start and --end.
 
 Exit status: 0 done; 1 a numbered refusal; 2 bad usage, or a text that is no request or journal; 3 reading or
 writing failed. An output file is written whole or not at all.";
+
+const SHIFT_HELP: &str = "\
+Example:
+  gomzhiva shift start examples/day.txt --journal shift.journal
+  gomzhiva shift record 1 3 --journal shift.journal
+  gomzhiva shift plan --journal shift.journal";
 
 #[derive(Subcommand, Debug)]
 pub enum Command {
@@ -63,7 +72,7 @@ pub enum Command {
         output: OutputArguments,
     },
     /// Keep a running shift in a journal that survives crashes
-    #[command(subcommand)]
+    #[command(subcommand, after_help = SHIFT_HELP)]
     Shift(ShiftCommand),
 }
 
