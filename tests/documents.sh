@@ -3,13 +3,7 @@
 # and the outputs in README are those of the programs. The last line is 'N passed, M failed'.
 set -u
 cd "$(dirname "$0")/.." || exit 2
-passed=0
-failed=0
-
-# verdict STATUS WHAT
-verdict() {
-    if [ "$1" -eq 0 ]; then passed=$((passed + 1)); else failed=$((failed + 1)); echo "FAILED: $2"; fi
-}
+source tests/counting.bash
 
 # stands NAME FILE: a definition, theorem or function of that name, or a field R.f of a record
 stands() {
@@ -58,5 +52,4 @@ for program in plan day; do
     verdict $? "README: not what $program prints"
 done
 
-printf '%d passed, %d failed\n' "$passed" "$failed"
-[ "$failed" -eq 0 ] && [ "$passed" -gt 50 ]
+finish 50

@@ -8,17 +8,12 @@ cd "$(dirname "$0")/.." || exit 2
 library=${ENERGY_LIB_DIR:-target/staticlib}/libenergy.a
 work=$(mktemp -d)
 trap 'rm -rf "$work"' EXIT
-passed=0
-failed=0
-verdict() { # a test's name and its status
-    if [ "$2" -eq 0 ]; then passed=$((passed + 1)); else failed=$((failed + 1)); fi
-    if [ "$2" -eq 0 ]; then echo "ok: $1"; else echo "FAILED: $1"; fi
-}
+source tests/counting.bash
 compare() { # a test's name, its expected output, and the command
     local name=$1 expected=$2
     shift 2
     "$@" >"$work/out" && diff "$expected" "$work/out"
-    verdict "$name" $?
+    verdict $? "$name"
 }
 c_program() { # a C file and the program to make of it
     ${CC:-cc} -std=c99 -Wall -Wextra -Werror -Iinclude "$1" "$library" -o "$2"
@@ -26,7 +21,7 @@ c_program() { # a C file and the program to make of it
 
 if [ -d crates/energy ] && [ -z "${ENERGY_LIB_DIR:-}" ]; then
     rt staticlib energy
-    verdict 'static library' $?
+    verdict $? 'static library'
 fi
 
 rust/cargo test 2>&1 | tee "$work/log"
@@ -35,20 +30,19 @@ while read -r ok bad; do
     passed=$((passed + ok))
     failed=$((failed + bad))
 done < <(sed -n 's/^test result: .* \([0-9]*\) passed; \([0-9]*\) failed;.*/\1 \2/p' "$work/log")
-verdict 'Rust tests' "$status"
+verdict "$status" 'Rust tests'
 compare 'example in Rust' tests/example.out rust/cargo run -q -p energy --example plan
 
 rust/energy/bindings >"$work/made.rs" && rustfmt --edition 2021 --config max_width=120 <rust/energy/src/raw.rs >"$work/kept.rs" && diff "$work/kept.rs" "$work/made.rs"
-verdict 'declarations for Rust are those of the header' $?
+verdict $? 'declarations for Rust are those of the header'
 
 if [ -f "$library" ]; then
     c_program tests/header.c "$work/header" && compare 'every function from C' tests/header.out "$work/header"
-    [ -x "$work/header" ] || verdict 'header.c compiles' 1
+    [ -x "$work/header" ] || verdict 1 'header.c compiles'
     c_program examples/plan.c "$work/plan" && compare 'example in C' tests/example.out "$work/plan"
-    [ -x "$work/plan" ] || verdict 'plan.c compiles' 1
+    [ -x "$work/plan" ] || verdict 1 'plan.c compiles'
 else
-    verdict "there is $library" 1
+    verdict 1 "there is $library"
 fi
 
-printf '%d passed, %d failed\n' "$passed" "$failed"
-[ "$failed" -eq 0 ] && [ "$passed" -gt 0 ]
+finish 40

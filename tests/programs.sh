@@ -4,22 +4,11 @@
 set -u
 cd "$(dirname "$0")/.." || exit 2
 bin=target/bin
-passed=0
-failed=0
+source tests/counting.bash
 folder=$(mktemp -d)
 trap 'rm -rf "$folder"' EXIT
 
 rt check plan >"$folder/build" 2>&1 || { cat "$folder/build"; echo '0 passed, 1 failed'; exit 1; }
-
-# check NAME EXPECTED ACTUAL
-check() {
-    if [ "$2" = "$3" ]; then
-        passed=$((passed + 1))
-    else
-        failed=$((failed + 1))
-        printf 'FAILED %s\n  expected: %q\n  found:    %q\n' "$1" "$2" "$3"
-    fi
-}
 
 # words as bytes, the lowest byte first: word 9 0x40000001 ..
 word() {
@@ -127,5 +116,4 @@ check 'a closed input: told' 'plan: standard input: Bad file descriptor' "$($bin
 check 'a full disk: told' 'plan: standard output: No space left on device' "$($bin/plan <"$folder/listing" 2>&1 >/dev/full)"
 check 'a closed output: told' 'plan: standard output: Bad file descriptor' "$($bin/plan <"$folder/listing" 2>&1 >&-)"
 
-printf '%d passed, %d failed\n' "$passed" "$failed"
-[ "$failed" -eq 0 ]
+finish 40

@@ -4,22 +4,11 @@
 set -u
 cd "$(dirname "$0")/.." || exit 2
 root=$PWD
-passed=0
-failed=0
+source tests/counting.bash
 folder=$(mktemp -d)
 trap 'rm -rf "$folder"' EXIT
 mkdir "$folder/docs"
 ln -s "$root/bin" "$root/examples" "$folder"
-
-# check NAME EXPECTED ACTUAL
-check() {
-    if [ "$2" = "$3" ]; then
-        passed=$((passed + 1))
-    else
-        failed=$((failed + 1))
-        printf 'FAILED %s\n  expected: %q\n  found:    %q\n' "$1" "$2" "$3"
-    fi
-}
 
 command=''
 expected=''
@@ -45,5 +34,4 @@ cmp "$folder/docs/june.svg" docs/june.svg
 check 'the picture in docs/' 0 $?
 check 'a built program is not built again' "$built" "$(stat -c %y.%i target/gomzhiva.built)"
 
-printf '%d passed, %d failed\n' "$passed" "$failed"
-[ "$failed" -eq 0 ] && [ "$passed" -gt 10 ]
+finish 15
