@@ -12,12 +12,13 @@ pub const START: usize = 1;
 pub const END: usize = 2;
 
 /// A column of the table of frames: a list of numbers, or what only people read.
-pub const COLUMNS: [(&str, Kind); 5] = [
+pub const COLUMNS: [(&str, Kind); 6] = [
     ("harvest", Kind::List(HARVEST)),
     ("budget", Kind::List(BUDGET)),
     ("frame", Kind::Skipped),
     ("time", Kind::Skipped),
     ("charge", Kind::Skipped),
+    ("use", Kind::Skipped),
 ];
 pub const HARVEST: usize = 0;
 pub const BUDGET: usize = 1;
@@ -212,6 +213,7 @@ mod tests {
             "# a day\n\nEND 2\nCapacity\t5 # Wh\nstart 002\n\nHarvest\n\n6\n\n4",
             "capacity 5\rstart 2\rend 2\rharvest\r6\r4\r",
             "capacity 5\nstart 2\nend 2\ntime,harvest,charge\n06:00,6,-3\n06:15,4\n",
+            "capacity 5,\nstart 2,\nend 2,\ntime,harvest\n2026-06-21 06:00,6\n\"21.6.2026, 06:15\",4\n",
         ] {
             assert_eq!(said(text), day, "{text:?}");
         }
@@ -223,6 +225,7 @@ mod tests {
         let number = "a whole number up to 4294967295 is expected, found";
         assert_eq!(fault("capacity 5\nstart 2\nend x\n"), format!("3:5: {number} 'x'"));
         assert_eq!(fault("capacity\n"), format!("1:9: {number} the end of the line"));
+        assert_eq!(fault("capacity  # Wh\n"), format!("1:9: {number} the end of the line"));
         assert_eq!(fault("capacity 4294967296"), format!("1:10: {number} '4294967296'"));
         assert_eq!(fault("capacity -1"), format!("1:10: {number} '-1'"));
         assert_eq!(
@@ -241,12 +244,12 @@ mod tests {
         );
         assert_eq!(fault("harvest,budget\n,3"), format!("2:1: {number} nothing"));
         assert_eq!(fault("harvest\n6\nend 2"), format!("3:1: {number} 'end'"));
-        let names = "a figure (capacity, start, end) or a column (harvest, budget, frame, time, charge)";
+        let names = "a figure (capacity, start, end) or a column (harvest, budget, frame, time, charge, use)";
         assert_eq!(fault("harvst\n6"), format!("1:1: {names} is expected, found 'harvst'"));
         assert_eq!(fault("5\n6"), format!("1:1: {names} is expected, found '5'"));
         assert_eq!(
             fault("harvest,harvest\n"),
-            "1:9: a column (budget, frame, time, charge) is expected, found 'harvest'"
+            "1:9: a column (budget, frame, time, charge, use) is expected, found 'harvest'"
         );
         let table = "a table with the column 'harvest' is expected, found the end of the text";
         assert_eq!(fault(""), format!("1:1: {table}"));
@@ -265,7 +268,7 @@ mod tests {
 
     #[test]
     fn bare_lists() {
-        assert_eq!(bare_numbers("4 4,4\n# none\n4 2 2"), Ok(Some(vec![4, 4, 4, 4, 2, 2])));
+        assert_eq!(bare_numbers("4 4 4\n# none\n4,2,2"), Ok(Some(vec![4, 4, 4, 4, 2, 2])));
         assert_eq!(bare_numbers("budget\n4"), Ok(None));
         assert_eq!(bare_numbers(" # none"), Ok(None));
         assert_eq!(
