@@ -10,7 +10,7 @@ use std::process;
 
 /// The most bytes of a request as text; of a longer input one byte more is read, and no further.
 pub const MOST_BYTES: usize = 1 << 20;
-const READ_BYTES: u64 = MOST_BYTES as u64 + 1;
+pub const READ_BYTES: u64 = MOST_BYTES as u64 + 1;
 
 /// A file as the user names it.
 #[derive(Clone, Debug)]
@@ -73,13 +73,21 @@ fn read_file(path: &Path) -> io::Result<Vec<u8>> {
     Ok(bytes)
 }
 
-/// Puts the bytes in the place of what a file held; what is no regular file, such as a device, is written as it is.
+/// Puts the bytes in the place of what a file held, if that may be written; what is no regular file, such as a device, is
+/// written as it is.
 fn replace(path: &Path, bytes: &[u8]) -> io::Result<()> {
     let rename = |new: &Path, path: &Path| fs::rename(new, path);
-    match fs::metadata(path) {
-        Ok(known) if !known.is_file() => OpenOptions::new().write(true).open(path)?.write_all(bytes),
-        Ok(known) => put(&fs::canonicalize(path)?, bytes, Some(known.permissions()), rename),
-        Err(_) => put(path, bytes, None, rename),
+    match OpenOptions::new().write(true).open(path) {
+        Ok(mut file) => {
+            let known = file.metadata()?;
+            if known.is_file() {
+                put(&fs::canonicalize(path)?, bytes, Some(known.permissions()), rename)
+            } else {
+                file.write_all(bytes)
+            }
+        }
+        Err(error) if error.kind() == io::ErrorKind::NotFound => put(path, bytes, None, rename),
+        Err(error) => Err(error),
     }
 }
 

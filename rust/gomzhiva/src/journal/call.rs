@@ -48,16 +48,14 @@ impl Call {
         (call.to_string() == text).then_some(call)
     }
 
-    /// Whether a text is the beginning of a recording, or all of it.
+    /// Whether a text is the beginning of a recording's line: something completes it to a recording, or it is one and the
+    /// blank behind it.
     pub fn begins_recording(text: &str) -> bool {
-        const NAME: &str = "record ";
-        match text.strip_prefix(NAME) {
-            None => NAME.starts_with(text),
-            Some(rest) => {
-                let figures = rest.split(' ').count() - usize::from(rest.ends_with(' '));
-                figures <= 2 && rest.bytes().all(|b| b == b' ' || b.is_ascii_digit())
-            }
-        }
+        let records = |text: &str| matches!(Call::parse(text), Some(Call::Record { .. }));
+        let completed = |rest: &&str| records(&format!("{text}{rest}"));
+        "record".starts_with(text)
+            || ["", "0", " 0", "0 0"].iter().any(completed)
+            || text.strip_suffix(' ').map_or(false, records)
     }
 }
 
@@ -100,11 +98,25 @@ mod tests {
 
     #[test]
     fn beginnings_of_a_recording() {
-        for length in 0.."record 12 34 ".len() {
-            let text = &"record 12 34 "[..length];
-            assert!(Call::begins_recording(text), "{text:?}");
+        for line in ["record 12 34 ", "record 0 4294967295 "] {
+            for length in 0..=line.len() {
+                assert!(Call::begins_recording(&line[..length]), "{length} bytes of {line:?}");
+            }
         }
-        for text in ["x", "records", "start", "record x", "record 1 2 3", "record 1 2 3 "] {
+        for text in [
+            "x",
+            "records",
+            "start",
+            "start capacity 5 start 2 end 2 harvest 6 4",
+            "record x",
+            "record 01",
+            "record  1",
+            "record 1 2  ",
+            "record 1 2 3",
+            "record 1 2 3 ",
+            "record 4294967296",
+            "record 1 99999999999",
+        ] {
             assert!(!Call::begins_recording(text), "{text:?}");
         }
     }

@@ -127,8 +127,9 @@ fn lock_and_read(path: &Path, purpose: Purpose) -> io::Result<(File, Vec<u8>)> {
         FlockOperation::LockShared
     };
     flock(&file, lock)?;
+    // No journal is longer than that: what is cut off here belongs to none.
     let mut bytes = Vec::new();
-    file.read_to_end(&mut bytes)?;
+    (&mut file).take(files::READ_BYTES).read_to_end(&mut bytes)?;
     Ok((file, bytes))
 }
 
