@@ -25,6 +25,17 @@ impl Failure {
         }
     }
 
+    /// A failed call of the system after something was done that stays done.
+    pub fn after(self, done: &str) -> Failure {
+        match self {
+            Failure::System { name, reason } => Failure::System {
+                name,
+                reason: format!("{reason}; {done} all the same"),
+            },
+            other => other,
+        }
+    }
+
     /// The exit status.
     pub fn status(&self) -> u8 {
         match self {

@@ -28,7 +28,7 @@ pub fn run(command: &ShiftCommand) -> Result<(), Failure> {
 
 fn start(request: &RequestArguments, journal: &JournalArguments) -> Result<(), Failure> {
     let running = Journal::start(&journal.journal, request.read()?.request()?)?;
-    print(&format!("Started. {}\n", standing(&running.shift)))
+    answer("Started", &running.shift)
 }
 
 fn record(harvest: u32, used: u32, frame: Option<u32>, journal: &JournalArguments) -> Result<(), Failure> {
@@ -40,10 +40,12 @@ fn record(harvest: u32, used: u32, frame: Option<u32>, journal: &JournalArgument
         )));
     }
     journal.record(harvest, used)?;
-    print(&format!(
-        "Recorded frame {next}. {}\n",
-        standing(&journal.running.shift)
-    ))
+    answer(&format!("Recorded frame {next}"), &journal.running.shift)
+}
+
+/// Answers a call that is in the journal; where the answer cannot be printed, the failure says what is done all the same.
+fn answer(done: &str, shift: &Shift) -> Result<(), Failure> {
+    print(&format!("{done}. {}\n", standing(shift))).map_err(|failure| failure.after(done))
 }
 
 fn look(journal: &JournalArguments) -> Result<Running, Failure> {
