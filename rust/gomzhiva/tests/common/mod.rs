@@ -1,6 +1,8 @@
 //! The built program, run as a person would run it, in a folder of its own.
 #![allow(dead_code)] // each test file uses a part
 
+use proptest::prelude::*;
+use proptest::test_runner::{RngAlgorithm, TestRng, TestRunner};
 use std::fs;
 use std::io::Write;
 use std::path::{Path, PathBuf};
@@ -8,6 +10,50 @@ use std::process::{Command, Output, Stdio};
 
 /// Document 01's request as text.
 pub const DAY: &str = "capacity 5\nstart 2\nend 2\nharvest\n6\n4\n0\n0\n5\n5\n";
+
+/// Its word file.
+pub fn day_words() -> Vec<u8> {
+    let words = [
+        5,
+        2,
+        2,
+        6 | 1 << 30,
+        4 | 1 << 30,
+        1 << 30,
+        1 << 30,
+        5 | 1 << 30,
+        5 | 1 << 30,
+        6 | 3 << 30,
+    ];
+    words.iter().flat_map(|word: &u32| word.to_le_bytes()).collect()
+}
+
+/// A request as text, as `text` prints it.
+pub fn request_text(capacity: u32, start: u32, end: u32, harvest: &[u32]) -> String {
+    format!(
+        "capacity {capacity}\nstart {start}\nend {end}\nharvest\n{}",
+        column(harvest)
+    )
+}
+
+/// A line for each number.
+pub fn column(list: &[u32]) -> String {
+    list.iter().map(|number| format!("{number}\n")).collect()
+}
+
+/// Checks a property of so many values, the same ones in each run: ENERGY_SEED names others.
+pub fn check<S: Strategy>(cases: u32, values: S, property: impl Fn(S::Value) -> Result<(), TestCaseError>) {
+    let config = ProptestConfig {
+        cases,
+        failure_persistence: None,
+        ..ProptestConfig::default()
+    };
+    let mut seed = [0; 32];
+    seed[..8].copy_from_slice(&evidence::random::seed().to_le_bytes());
+    let random = TestRng::from_seed(RngAlgorithm::ChaCha, &seed);
+    let checked = TestRunner::new_with_rng(config, random).run(&values, property);
+    checked.unwrap_or_else(|failed| panic!("{failed}"));
+}
 
 /// What a run left: its exit status, and both streams.
 #[derive(Debug, PartialEq, Eq)]
@@ -83,7 +129,10 @@ impl Folder {
     /// Runs the program with these bytes on standard input.
     pub fn run_with(&self, arguments: &[&str], input: &[u8]) -> Ran {
         let mut command = self.command(arguments);
-        command.stdin(Stdio::piped()).stdout(Stdio::piped()).stderr(Stdio::piped());
+        command
+            .stdin(Stdio::piped())
+            .stdout(Stdio::piped())
+            .stderr(Stdio::piped());
         let mut child = command.spawn().expect("the program starts");
         let mut stdin = child.stdin.take().expect("a pipe");
         let input = input.to_vec();

@@ -1,0 +1,480 @@
+//! Every command of the built program, accepted and refused, with what it prints and its status.
+
+mod common;
+
+use common::{check, day_words, request_text, Folder, Ran, DAY};
+use energy::{Energy, Figures, LISTING_BYTES, MAX_CAPACITY, MAX_FILE_BYTES, MAX_FRAMES, MAX_HARVEST};
+use evidence::reference::Reference;
+use proptest::prelude::*;
+
+const TABLE: &str = "\
+frame  harvest  budget  charge
+    1        6       4       4
+    2        4       3       5
+    3        0       3       2
+    4        0       2       0
+    5        5       4       1
+    6        5       4       2
+";
+
+const LISTING: &str = "frames 6 capacity 5 needed 6\n1 4 4\n2 3 5\n3 3 2\n4 2 0\n5 4 1\n6 4 2\nworth 320 480 100\n";
+
+const CSV: &str = "frame,harvest,budget,charge\n1,6,4,4\n2,4,3,5\n3,0,3,2\n4,0,2,0\n5,5,4,1\n6,5,4,2\n";
+
+/// The day as text, as a table alone, and as a word file.
+fn folder_of_the_day() -> Folder {
+    let folder = Folder::new();
+    folder.write("day.txt", DAY);
+    folder.write("day.csv", "\u{feff}\"harvest\"\r\n6\r\n4\r\n0\r\n0\r\n5\r\n5");
+    folder.write("day.words", day_words());
+    folder
+}
+
+const FIGURES: [&str; 6] = ["--capacity", "5", "--start", "2", "--end", "2"];
+
+fn assert_done(ran: &Ran, out: &str) {
+    assert_eq!((ran.status, ran.text().as_str(), ran.err.as_str()), (Some(0), out, ""));
+}
+
+#[test]
+fn a_plan_is_a_table_with_a_summary_in_words() {
+    let folder = folder_of_the_day();
+    let words = "
+6 frames: 20 Wh harvested, 20 Wh budgeted (mean 3.3, most 4).
+The charge goes from 2 to 2 Wh, and is at most 5 Wh after a frame, of a capacity of 5 Wh.
+A capacity of 6 Wh would serve every curve as well as unlimited storage.
+Worth 320 480 100 by house curves 0, 1 and 2.
+";
+    let shown = format!("{TABLE}{words}");
+    assert_done(&folder.run(&["plan", "day.txt"]), &shown);
+    assert_done(&folder.run(&["plan", "day.words"]), &shown);
+    assert_done(&folder.run(&[&["plan", "day.csv"], &FIGURES[..]].concat()), &shown);
+    assert_done(&folder.run_with(&["plan", "-"], DAY.as_bytes()), &shown);
+    assert_done(&folder.run_with(&["plan", "-"], &day_words()), &shown);
+}
+
+#[test]
+fn a_listing_is_document_01s() {
+    let folder = folder_of_the_day();
+    for request in ["day.txt", "day.words"] {
+        assert_done(&folder.run(&["plan", "--listing", request]), LISTING);
+    }
+    let other = folder.run(&["plan", "--listing", "day.words", "--capacity", "6"]);
+    assert_eq!(other.text().lines().next(), Some("frames 6 capacity 6 needed 6"));
+}
+
+#[test]
+fn a_table_for_a_spreadsheet_is_read_again() {
+    let folder = folder_of_the_day();
+    let table = folder.run(&["plan", "--csv", "day.txt"]);
+    assert_done(&table, CSV);
+    let traced = folder.run_with(&["trace", "--csv", "day.txt", "-"], &table.out);
+    assert_done(&traced, CSV);
+    let planned = folder.run_with(&[&["plan", "--csv", "-"], &FIGURES[..]].concat(), &table.out);
+    assert_done(&planned, CSV);
+}
+
+#[test]
+fn figures_given_as_options_replace_those_of_the_request() {
+    let folder = folder_of_the_day();
+    let budgets = |arguments: &[&str]| {
+        let ran = folder.run(arguments);
+        assert_eq!(ran.status, Some(0), "{}", ran.err);
+        let rows = ran.text();
+        let budget = |row: &str| row.split(',').nth(2).expect("a budget").to_string();
+        rows.lines().skip(1).map(budget).collect::<Vec<_>>().join(" ")
+    };
+    for request in ["day.txt", "day.words"] {
+        assert_eq!(budgets(&["plan", "--csv", request, "--capacity", "6"]), "3 3 3 3 4 4");
+        assert_eq!(
+            budgets(&["plan", "--csv", request, "--end", "0", "--start", "0"]),
+            "3 3 2 2 5 5"
+        );
+    }
+}
+
+#[test]
+fn the_needed_capacity() {
+    let folder = folder_of_the_day();
+    assert_done(&folder.run(&["needed", "day.txt"]), "needed capacity 6 Wh\n");
+    assert_done(
+        &folder.run(&["needed", "day.words", "--start", "7"]),
+        "needed capacity 8 Wh\n",
+    );
+    assert_done(
+        &folder.run(&["needed", "day.csv", "--start", "2", "--end", "2"]),
+        "needed capacity 6 Wh\n",
+    );
+}
+
+#[test]
+fn a_trace_has_its_verdict() {
+    let folder = folder_of_the_day();
+    let trace = |budgets: &str, capacity: &str| {
+        let ran = folder.run_with(&["trace", "day.txt", "-", "--capacity", capacity], budgets.as_bytes());
+        assert_eq!((ran.status, ran.err.as_str()), (Some(0), ""));
+        let text = ran.text();
+        let charges: Vec<String> = text
+            .lines()
+            .skip(1)
+            .take(6)
+            .map(|row| row.split_whitespace().last().expect("a charge").to_string())
+            .collect();
+        (charges.join(" "), text.lines().last().expect("a verdict").to_string())
+    };
+    let charges = |charges: &str, verdict: &str| (charges.to_string(), verdict.to_string());
+    assert_eq!(
+        trace("4 4 4 4 2 2", "22"),
+        charges("4 4 0 -4 -1 2", "Not feasible: the charge after frame 4 is below zero.")
+    );
+    assert_eq!(
+        trace("4 3 3 2 4 4", "5"),
+        charges(
+            "4 5 2 0 1 2",
+            "Feasible: the charge ends at 2 Wh, and 2 Wh were asked for."
+        )
+    );
+    assert_eq!(
+        trace("budget\n4\n3\n3\n2\n4\n5\n", "5"),
+        charges(
+            "4 5 2 0 1 1",
+            "Not feasible: the charge ends at 1 Wh, below the end charge of 2 Wh."
+        )
+    );
+}
+
+#[test]
+fn budgets_are_graded() {
+    let folder = folder_of_the_day();
+    let worth = "worth 320 480 100 by house curves 0, 1 and 2\n";
+    assert_done(&folder.run_with(&["grade", "-"], b"4 3 3\n2 4 4"), worth);
+    assert_done(&folder.run_with(&["grade", "-"], CSV.as_bytes()), worth);
+    assert_refused(&folder.run_with(&["grade", "-"], b"budget\n"), "refused 1 0");
+    let many = "1\n".repeat(MAX_FRAMES + 1);
+    assert_refused(&folder.run_with(&["grade", "-"], many.as_bytes()), "refused 2 0");
+}
+
+#[test]
+fn a_word_file_and_its_text() {
+    let folder = folder_of_the_day();
+    assert_done(&folder.run(&["words", "day.txt", "made.words"]), "");
+    assert_eq!(folder.read("made.words"), day_words());
+    assert_eq!(folder.run(&["words", "day.txt"]).out, day_words());
+    assert_eq!(folder.run(&["words", "day.txt", "-"]).out, day_words());
+    assert_done(&folder.run(&["text", "day.words", "made.txt"]), "");
+    assert_eq!(folder.read("made.txt"), DAY.as_bytes());
+    assert_done(&folder.run(&["text", "day.words"]), DAY);
+    assert_done(
+        &folder.run(&["text", "day.words", "--end", "3"]),
+        &DAY.replace("end 2", "end 3"),
+    );
+    // What the reader takes and the writer does not: the text is there, and its word file is refused.
+    folder.write(
+        "high.words",
+        [&[9, 0, 0, 0], &day_words()[4..8], &[10], &day_words()[9..]].concat(),
+    );
+    let text = folder.run(&["text", "high.words"]);
+    assert_done(
+        &text,
+        &DAY.replace("capacity 5", "capacity 9").replace("end 2", "end 10"),
+    );
+    let words = folder.run_with(&["words", "-", "high.again"], &text.out);
+    assert_refused(&words, "refused 5 0");
+    assert!(!folder.file("high.again").exists());
+}
+
+/// Document 01's line on standard output, and the same with a sentence on standard error.
+fn assert_refused(ran: &Ran, line: &str) {
+    assert_eq!((ran.status, ran.text()), (Some(1), format!("{line}\n")), "{}", ran.err);
+    assert_told(ran, line);
+}
+
+/// A refusal where standard output is the product: it is told on standard error alone.
+fn assert_refused_silently(ran: &Ran, line: &str) {
+    assert_eq!((ran.status, ran.text().as_str()), (Some(1), ""), "{}", ran.err);
+    assert_told(ran, line);
+}
+
+fn assert_told(ran: &Ran, line: &str) {
+    let sentence = ran.err.strip_prefix(&format!("gomzhiva: {line}: ")).unwrap_or_default();
+    assert!(sentence.len() > 10 && sentence.ends_with('\n'), "{:?}", ran.err);
+    assert_eq!(ran.err.lines().count(), 1, "{:?}", ran.err);
+}
+
+#[test]
+fn every_refusal_of_a_request() {
+    let folder = Folder::new();
+    let frames = |count: usize| request_text(5, 2, 2, &vec![1; count]);
+    let high = MAX_CAPACITY + 1;
+    let sunny = [1, MAX_HARVEST + 1, MAX_HARVEST + 1];
+    for (request, plan, needed, trace, words) in [
+        (frames(0), "1 0", "1 0", "1 0", "1 0"),
+        (frames(MAX_FRAMES + 1), "2 0", "2 0", "2 0", "2 0"),
+        (request_text(high, 2, 2, &[1]), "3 0", "", "3 0", "3 0"),
+        (request_text(5, high, 2, &[1]), "4 0", "3 0", "4 0", "4 0"),
+        (request_text(5, 6, 2, &[1]), "4 0", "", "4 0", "4 0"),
+        (request_text(5, 2, 6, &[1]), "5 0", "9 3", "5 0", "5 0"),
+        (request_text(5, 2, 2, &sunny), "6 2", "6 2", "6 2", "6 2"),
+        (request_text(8, 3, 8, &[4]), "9 1", "9 1", "", ""),
+    ] {
+        folder.write("request", &request);
+        let budgets = format!("budget\n{}", "0\n".repeat(request.lines().count() - 4));
+        folder.write("budgets", budgets);
+        let calls: [(&[&str], &str); 6] = [
+            (&["plan", "request"], plan),
+            (&["plan", "request", "--chart", "out.svg"], plan),
+            (&["shift", "start", "request", "--journal", "journal"], plan),
+            (&["needed", "request"], needed),
+            (&["trace", "request", "budgets"], trace),
+            (&["words", "request", "out.words"], words),
+        ];
+        for (arguments, line) in calls.into_iter().filter(|(_, line)| !line.is_empty()) {
+            assert_refused(&folder.run(arguments), &format!("refused {line}"));
+        }
+        assert_refused(
+            &folder.run(&["plan", "--listing", "request"]),
+            &format!("refused {plan}"),
+        );
+        let products: [(&[&str], &str); 5] = [
+            (&["plan", "--csv", "request"], plan),
+            (&["plan", "request", "--chart", "-"], plan),
+            (&["trace", "--csv", "request", "budgets"], trace),
+            (&["trace", "request", "budgets", "--chart", "-"], trace),
+            (&["words", "request"], words),
+        ];
+        for (arguments, line) in products.into_iter().filter(|(_, line)| !line.is_empty()) {
+            assert_refused_silently(&folder.run(arguments), &format!("refused {line}"));
+        }
+        assert_eq!(
+            folder.names(),
+            ["budgets", "request"],
+            "a refusal leaves nothing behind"
+        );
+    }
+}
+
+#[test]
+fn budgets_of_another_length_and_malformed_files_are_refused() {
+    let folder = folder_of_the_day();
+    assert_refused(
+        &folder.run_with(&["trace", "day.txt", "-"], b"1 2 3 4 5"),
+        "refused 7 0",
+    );
+    folder.write("kind", [9, 0, 0, 0, 1, 0, 0, 0x40]);
+    folder.write("torn", &day_words()[..day_words().len() - 1]);
+    folder.write(
+        "long",
+        [0xff; MAX_FILE_BYTES].iter().chain(&[0]).copied().collect::<Vec<u8>>(),
+    );
+    for (file, line) in [
+        ("kind", "refused 8 1"),
+        ("torn", "refused 8 9"),
+        ("long", "refused 2 0"),
+    ] {
+        assert_refused(&folder.run(&["plan", file]), line);
+        assert_refused(&folder.run(&["plan", "--listing", file]), line);
+        assert_refused(&folder.run(&["needed", file]), line);
+        assert_refused(&folder.run_with(&["trace", file, "-"], b"1"), line);
+        assert_refused(&folder.run(&["words", file, "out"]), line);
+        assert_refused(&folder.run(&["text", file, "out"]), line);
+        assert_refused_silently(&folder.run(&["text", file]), line);
+        assert_refused(&folder.run(&["shift", "start", file, "--journal", "journal"]), line);
+    }
+    assert_eq!(
+        folder.names(),
+        ["day.csv", "day.txt", "day.words", "kind", "long", "torn"]
+    );
+}
+
+#[test]
+fn texts_that_are_no_request_name_their_place() {
+    let folder = Folder::new();
+    folder.write("day.txt", "capacity 5\nstart 2\nend x\n");
+    let expected = "day.txt:3:5: a whole number up to 4294967295 is expected, found 'x'\n";
+    for arguments in [
+        &["plan", "day.txt"][..],
+        &["plan", "--listing", "day.txt"],
+        &["plan", "--csv", "day.txt"],
+        &["needed", "day.txt"],
+        &["trace", "day.txt", "-"],
+        &["grade", "day.txt"],
+        &["words", "day.txt", "out"],
+        &["text", "day.txt", "out"],
+        &["shift", "start", "day.txt", "--journal", "out"],
+    ] {
+        let ran = folder.run(arguments);
+        assert_eq!((ran.status, ran.text().as_str()), (Some(2), ""), "{arguments:?}");
+        assert_eq!(ran.err, expected, "{arguments:?}");
+    }
+    assert_eq!(folder.names(), ["day.txt"]);
+    let large = folder.run_with(&["plan", "-"], &b"# ".repeat(1 << 20));
+    assert_eq!(large.status, Some(2));
+    assert_eq!(
+        large.err,
+        "standard input: a text of at most 1048576 bytes is expected, found more\n"
+    );
+    let open = folder.run_with(&["plan", "-", "--start", "2"], b"harvest\n6\n");
+    assert_eq!(open.status, Some(2));
+    assert_eq!(
+        open.err,
+        "standard input:3:1: 'capacity' with its number before the table, or the option --capacity, is expected, found the end of the text\n"
+    );
+}
+
+#[test]
+fn bad_usage_is_told_on_standard_error() {
+    let folder = folder_of_the_day();
+    for arguments in [
+        &[][..],
+        &["plane"],
+        &["plan"],
+        &["plan", "day.txt", "--size", "5"],
+        &["plan", "day.txt", "--capacity", "-1"],
+        &["plan", "day.txt", "--capacity", "4294967296"],
+        &["plan", "day.txt", "--listing", "--csv"],
+        &["plan", "day.txt", "--listing", "--chart", "x.svg"],
+        &["trace", "day.txt"],
+        &["trace", "-", "-"],
+        &["shift"],
+        &["shift", "start", "day.txt"],
+        &["shift", "record", "1", "--journal", "journal"],
+        &["shift", "record", "1", "x", "--journal", "journal"],
+    ] {
+        let ran = folder.run(arguments);
+        assert_eq!((ran.status, ran.text().as_str()), (Some(2), ""), "{arguments:?}");
+        assert!(!ran.err.is_empty(), "{arguments:?}");
+    }
+}
+
+#[test]
+fn every_command_has_help_with_an_example() {
+    let folder = Folder::new();
+    let commands: [&[&str]; 13] = [
+        &[],
+        &["plan"],
+        &["needed"],
+        &["trace"],
+        &["grade"],
+        &["words"],
+        &["text"],
+        &["shift"],
+        &["shift", "start"],
+        &["shift", "record"],
+        &["shift", "plan"],
+        &["shift", "show"],
+        &["shift", "chart"],
+    ];
+    for command in commands {
+        let ran = folder.run(&[command, &["--help"][..]].concat());
+        assert_eq!((ran.status, ran.err.as_str()), (Some(0), ""), "{command:?}");
+        let text = ran.text();
+        let example = text.split("Example").nth(1).unwrap_or_default();
+        let named = format!("gomzhiva {}", command.join(" "));
+        assert!(example.contains(named.trim_end()), "{command:?}: {text}");
+    }
+    assert_done(
+        &folder.run(&["--version"]),
+        &format!("gomzhiva {}\n", env!("CARGO_PKG_VERSION")),
+    );
+}
+
+#[test]
+fn pictures_are_drawn_into_files_and_on_standard_output() {
+    let folder = folder_of_the_day();
+    let whole = |svg: &[u8]| svg.starts_with(b"<svg ") && svg.ends_with(b"</svg>\n");
+    let plan = folder.run(&["plan", "day.txt", "--chart", "plan.svg"]);
+    assert_eq!(plan.status, Some(0));
+    assert!(plan.text().starts_with(TABLE) && whole(&folder.read("plan.svg")));
+    assert_done(&folder.run(&["plan", "day.txt", "--csv", "--chart", "plan.svg"]), CSV);
+    let picture = folder.run(&["plan", "day.txt", "--chart", "-"]);
+    assert_eq!((picture.status, &picture.out), (Some(0), &folder.read("plan.svg")));
+    let text = picture.text();
+    for name in [
+        "Plan of day.txt",
+        "capacity 5 Wh",
+        "needed capacity 6 Wh",
+        "20 Wh in all",
+    ] {
+        assert!(text.contains(name), "{name}");
+    }
+    let trace = folder.run_with(&["trace", "day.txt", "-", "--chart", "trace.svg"], b"4 4 4 4 2 2");
+    assert_eq!(trace.status, Some(0));
+    assert!(whole(&folder.read("trace.svg")));
+    assert!(String::from_utf8(folder.read("trace.svg"))
+        .unwrap()
+        .contains("overdrawn"));
+}
+
+/// Any request of up to 40 frames, the refused ones among them.
+fn any_request() -> impl Strategy<Value = (Figures, Vec<u32>)> {
+    let harvests = prop::collection::vec(prop_oneof![8 => 0..20u32, 1 => MAX_HARVEST..MAX_HARVEST + 2], 0..40);
+    (0..60u32, 0..40u32, 0..40u32, harvests)
+        .prop_map(|(capacity, start, end, harvest)| (Figures { capacity, start, end }, harvest))
+}
+
+/// The program shows what the independent implementation says, refusals with P included.
+#[test]
+fn commands_show_the_reference() {
+    check(100, (any_request(), 0..3u32), |((figures, harvest), change)| {
+        let folder = Folder::new();
+        folder.write(
+            "request",
+            request_text(figures.capacity, figures.start, figures.end, &harvest),
+        );
+        let frames = harvest.len();
+        let lines = |said: Result<String, energy::Refusal>| said.unwrap_or_else(|refusal| format!("{refusal}\n"));
+
+        let mut budgets = vec![0; frames];
+        let planned = Reference.plan(figures, &harvest, &mut budgets);
+        let plan = folder.run(&["plan", "--csv", "request"]);
+        prop_assert_eq!(plan.status, Some(i32::from(planned.is_err())));
+        if planned.is_ok() {
+            prop_assert_eq!(plan.text(), table(figures, &harvest, &budgets));
+        }
+
+        let mut room = vec![0; MAX_FILE_BYTES];
+        let written = Reference.write(figures, &harvest, &mut room);
+        if let Ok(length) = written {
+            let mut text = vec![0; LISTING_BYTES];
+            let bytes = Reference.listing(&room[..length], &mut text);
+            prop_assert_eq!(&folder.run(&["plan", "--listing", "request"]).out, &text[..bytes]);
+        }
+
+        let needed = Reference.needed(figures.start, figures.end, &harvest);
+        let shown = lines(needed.map(|needed| format!("needed capacity {needed} Wh\n")));
+        prop_assert_eq!(folder.run(&["needed", "request"]).text(), shown);
+
+        // A plan with one budget changed is often no longer feasible.
+        if let Some(first) = budgets.first_mut() {
+            *first += change;
+        }
+        folder.write("budgets", format!("budget\n{}", common::column(&budgets)));
+        let traced = Reference.trace(figures, &harvest, &budgets, &mut vec![0; frames]);
+        let trace = folder.run(&["trace", "--csv", "request", "budgets"]);
+        prop_assert_eq!(trace.status, Some(i32::from(traced.is_err())));
+        if let Ok(verdict) = traced {
+            prop_assert_eq!(trace.text(), table(figures, &harvest, &budgets));
+            let words = folder.run(&["trace", "request", "budgets"]).text();
+            prop_assert_eq!(words.contains("\nFeasible"), verdict == energy::Verdict::Feasible);
+        }
+
+        let worth = Reference
+            .grade(&budgets)
+            .map(|[a, b, c]| format!("worth {a} {b} {c} by house curves 0, 1 and 2\n"));
+        prop_assert_eq!(folder.run(&["grade", "budgets"]).text(), lines(worth));
+        Ok(())
+    });
+}
+
+/// The table of budgets as CSV, with the reference's charges.
+fn table(figures: Figures, harvest: &[u32], budgets: &[u32]) -> String {
+    let mut charges = vec![0; harvest.len()];
+    Reference
+        .trace(figures, harvest, budgets, &mut charges)
+        .expect("budgets that can be traced");
+    let mut text = "frame,harvest,budget,charge\n".to_string();
+    for (i, ((harvest, budget), charge)) in harvest.iter().zip(budgets).zip(&charges).enumerate() {
+        text += &format!("{},{harvest},{budget},{charge}\n", i + 1);
+    }
+    text
+}
