@@ -1,5 +1,6 @@
-/* Preloaded into a program, so that its reads and writes move at most PIECE bytes each, and the read or write after READS or WRITES of them
- * fails with EIO. Standard error is left alone. */
+/* Preloaded into a program, so that its reads and writes move at most PIECE bytes each, after PAUSE microseconds, and the read, write or sync
+ * after READS, WRITES or SYNCS of them fails with the error ERRNO, or EIO. Standard error is left alone. */
+#define _DEFAULT_SOURCE
 #include <errno.h>
 #include <stdlib.h>
 #include <sys/syscall.h>
@@ -11,13 +12,21 @@ static size_t number(const char *name, size_t otherwise) {
     return text ? strtoul(text, NULL, 10) : otherwise;
 }
 
+static int fails(const char *limit, size_t *calls) {
+    if ((*calls)++ < number(limit, (size_t)-1))
+        return 0;
+    errno = (int)number("ERRNO", EIO);
+    return 1;
+}
+
 static ssize_t move(long call, const char *limit, size_t *calls, int fd, void *bytes, size_t length) {
     size_t piece = number("PIECE", length);
-    if (fd != STDERR_FILENO && (*calls)++ >= number(limit, (size_t)-1)) {
-        errno = EIO;
+    if (fd == STDERR_FILENO)
+        return syscall(call, fd, bytes, length);
+    if (fails(limit, calls))
         return -1;
-    }
-    return syscall(call, fd, bytes, fd == STDERR_FILENO || length < piece ? length : piece);
+    usleep(number("PAUSE", 0));
+    return syscall(call, fd, bytes, length < piece ? length : piece);
 }
 
 ssize_t read(int fd, void *bytes, size_t length) {
@@ -28,4 +37,9 @@ ssize_t read(int fd, void *bytes, size_t length) {
 ssize_t write(int fd, const void *bytes, size_t length) {
     static size_t calls;
     return move(SYS_write, "WRITES", &calls, fd, (void *)bytes, length);
+}
+
+int fsync(int fd) {
+    static size_t calls;
+    return fails("SYNCS", &calls) ? -1 : (int)syscall(SYS_fsync, fd);
 }

@@ -5,7 +5,7 @@ use super::worth;
 use crate::cli::PlanArguments;
 use crate::failure::Failure;
 use crate::files::print;
-use crate::report::{counted, mean, sum};
+use crate::report::{capitalised, counted, mean, sum};
 use crate::request::{Draft, Request};
 use energy::{Energy, Linked, Refusal, LISTING_BYTES};
 
@@ -66,11 +66,4 @@ fn summary(request: &Request, plan: &Budgets<'_>) -> Result<String, Failure> {
         figures.capacity,
         capitalised(&worth(budgets)?),
     ))
-}
-
-fn capitalised(sentence: &str) -> String {
-    let mut characters = sentence.chars();
-    characters
-        .next()
-        .map_or(String::new(), |first| first.to_uppercase().chain(characters).collect())
 }

@@ -6,7 +6,7 @@ use crate::cli::{JournalArguments, OutputArguments, ShiftCommand};
 use crate::failure::Failure;
 use crate::files::print;
 use crate::journal::{Journal, Purpose, Running};
-use crate::report::{column, counted, frames, mean, sum, Table};
+use crate::report::{capitalised, column, counted, frames, mean, sum, Table};
 use crate::request::{Request, RequestArguments};
 use energy::{Energy, Figures, Linked, Refusal, Rest, Shift};
 use std::io::{self, Write};
@@ -28,7 +28,7 @@ pub fn run(command: &ShiftCommand) -> Result<(), Failure> {
 
 fn start(request: &RequestArguments, journal: &JournalArguments) -> Result<(), Failure> {
     let running = Journal::start(&journal.journal, request.read()?.request()?)?;
-    answer("Started", &running.shift)
+    answer("started", &running.shift)
 }
 
 fn record(harvest: u32, used: u32, frame: Option<u32>, journal: &JournalArguments) -> Result<(), Failure> {
@@ -40,12 +40,12 @@ fn record(harvest: u32, used: u32, frame: Option<u32>, journal: &JournalArgument
         )));
     }
     journal.record(harvest, used)?;
-    answer(&format!("Recorded frame {next}"), &journal.running.shift)
+    answer(&format!("recorded frame {next}"), &journal.running.shift)
 }
 
 /// Answers a call that is in the journal; where the answer cannot be printed, the failure says what is done all the same.
 fn answer(done: &str, shift: &Shift) -> Result<(), Failure> {
-    print(&format!("{done}. {}\n", standing(shift))).map_err(|failure| failure.after(done))
+    print(&format!("{}. {}\n", capitalised(done), standing(shift))).map_err(|failure| failure.after(done))
 }
 
 fn look(journal: &JournalArguments) -> Result<Running, Failure> {

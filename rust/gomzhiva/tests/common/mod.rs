@@ -1,10 +1,13 @@
 //! The built program, run as a person would run it, in a folder of its own.
 #![allow(dead_code)] // each test file uses a part
 
+use energy::Shift;
 use proptest::prelude::*;
 use proptest::test_runner::{RngAlgorithm, TestRng, TestRunner};
-use std::fs;
+use std::fs::{self, Permissions};
 use std::io::Write;
+use std::os::unix::fs::{MetadataExt, PermissionsExt};
+use std::os::unix::process::CommandExt;
 use std::path::{Path, PathBuf};
 use std::process::{Command, Output, Stdio};
 
@@ -39,6 +42,15 @@ pub fn request_text(capacity: u32, start: u32, end: u32, harvest: &[u32]) -> Str
 /// A line for each number.
 pub fn column(list: &[u32]) -> String {
     list.iter().map(|number| format!("{number}\n")).collect()
+}
+
+/// How a shift stands, in the words of its answers.
+pub fn standing(shift: &Shift) -> String {
+    let frames = if shift.frames == 1 { "frame" } else { "frames" };
+    format!(
+        "{} of {} {frames} recorded; charge {} Wh of a capacity of {} Wh; {} Wh harvested, {} Wh used, {} Wh lost.\n",
+        shift.recorded, shift.frames, shift.charge, shift.capacity, shift.harvested, shift.used, shift.lost
+    )
 }
 
 /// Checks a property of so many values, the same ones in each run: ENERGY_SEED names others.
@@ -119,6 +131,36 @@ impl Folder {
         let mut command = Command::new(env!("CARGO_BIN_EXE_gomzhiva"));
         command.args(arguments).current_dir(self.path());
         command
+    }
+
+    /// The library tests/faults.c in the folder, to be preloaded into the program.
+    pub fn faults(&self) -> PathBuf {
+        let source = concat!(env!("CARGO_MANIFEST_DIR"), "/../../tests/faults.c");
+        let library = self.file("faults.so");
+        let mut compiler = Command::new("cc");
+        compiler.args(["-shared", "-fPIC", "-O1", source, "-o"]).arg(&library);
+        assert!(compiler.status().expect("a C compiler").success());
+        library
+    }
+
+    /// Runs the program as somebody whom permissions bind, as they do not bind root.
+    pub fn run_unprivileged(&self, arguments: &[&str]) -> Ran {
+        const NOBODY: u32 = 65534;
+        let place = Folder::new();
+        let program = place.file("gomzhiva");
+        fs::copy(env!("CARGO_BIN_EXE_gomzhiva"), &program).expect("a copy of the program");
+        fs::set_permissions(place.path(), Permissions::from_mode(0o755)).expect("a folder for everybody");
+        let mut command = Command::new(program);
+        if fs::metadata(place.path()).expect("a folder").uid() == 0 {
+            command.uid(NOBODY).gid(NOBODY);
+        }
+        command.args(arguments).current_dir(self.path()).stdin(Stdio::null());
+        command.output().expect("the program runs").into()
+    }
+
+    /// Lets everybody do so much with a file of the folder, or with the folder itself, named ".".
+    pub fn permit(&self, name: &str, mode: u32) {
+        fs::set_permissions(self.file(name), Permissions::from_mode(mode)).expect("changed permissions");
     }
 
     /// Runs the program without input.

@@ -1,0 +1,491 @@
+//! Shifts over their journals: what is answered and kept, torn and damaged journals, several writers.
+
+mod common;
+
+use common::{column, request_text, standing, Folder, Ran, DAY};
+use energy::{Energy, Figures, Rest, Shift};
+use evidence::random::{seed, Random};
+use evidence::reference::logbook::Logbook;
+use evidence::reference::Reference;
+use rustix::fs::{flock, FlockOperation};
+use std::fs::{self, File};
+use std::process::Stdio;
+use std::thread;
+use std::time::Duration;
+
+const SHOW: [&str; 5] = ["shift", "show", "--csv", "--journal", "journal"];
+const PLAN: [&str; 4] = ["shift", "plan", "--journal", "journal"];
+const CHART: [&str; 4] = ["shift", "chart", "--journal", "journal"];
+
+fn start(folder: &Folder, request: &str) -> Ran {
+    folder.run_with(&["shift", "start", "-", "--journal", "journal"], request.as_bytes())
+}
+
+fn record(folder: &Folder, harvest: u32, used: u32) -> Ran {
+    let (harvest, used) = (harvest.to_string(), used.to_string());
+    folder.run(&["shift", "record", &harvest, &used, "--journal", "journal"])
+}
+
+/// The day's shift with two frames recorded.
+fn folder_of_a_shift() -> Folder {
+    let folder = Folder::new();
+    assert_eq!(start(&folder, DAY).status, Some(0));
+    assert_eq!(record(&folder, 1, 3).status, Some(0));
+    assert_eq!(record(&folder, 14, 2).status, Some(0));
+    folder
+}
+
+const SHOWN: &str = "frame,harvest,use,charge\n1,1,3,0\n2,14,2,5\n";
+
+fn done(out: &str) -> (Option<i32>, String, String) {
+    (Some(0), out.to_string(), String::new())
+}
+
+fn told(ran: Ran) -> (Option<i32>, String, String) {
+    (ran.status, ran.text(), ran.err)
+}
+
+#[test]
+fn a_shift_from_its_start_to_its_end() {
+    let folder = folder_of_a_shift();
+    let plan = "\
+frame  harvest  budget  charge
+    3        0       3       2
+    4        0       2       0
+    5        5       4       1
+    6        5       4       2
+
+4 frames left: 10 Wh expected, 13 Wh budgeted (mean 3.2). The charge goes from 5 to 2 Wh.
+";
+    assert_eq!(told(folder.run(&PLAN)), done(plan));
+    let csv = "frame,harvest,budget,charge\n3,0,3,2\n4,0,2,0\n5,5,4,1\n6,5,4,2\n";
+    assert_eq!(told(folder.run(&[&PLAN[..], &["--csv"]].concat())), done(csv));
+    let standing = "2 of 6 frames recorded; charge 5 Wh of a capacity of 5 Wh; 15 Wh harvested, 5 Wh used, 7 Wh lost.";
+    let table = "frame  harvest  use  charge\n    1        1    3       0\n    2       14    2       5\n";
+    let shown = folder.run(&["shift", "show", "--journal", "journal"]);
+    assert_eq!(told(shown), done(&format!("{table}\n{standing}\n")));
+    assert_eq!(told(folder.run(&SHOW)), done(SHOWN));
+
+    for (harvest, used) in [(0, 5), (0, 0), (0, 0), (4, 4)] {
+        assert_eq!(record(&folder, harvest, used).status, Some(0));
+    }
+    for arguments in [&PLAN[..], &["shift", "record", "0", "0", "--journal", "journal"]] {
+        let refused = folder.run(arguments);
+        assert_eq!((refused.status, refused.text().as_str()), (Some(1), "refused 20 0\n"));
+        assert_eq!(refused.err, "gomzhiva: refused 20 0: every frame is recorded already\n");
+    }
+    let silent = folder.run(&[&PLAN[..], &["--csv"]].concat());
+    assert_eq!((silent.status, silent.text().as_str()), (Some(1), ""));
+    assert_eq!(folder.run(&CHART).status, Some(0), "a finished shift has its picture");
+}
+
+#[test]
+fn a_rest_that_is_short_says_by_how_much() {
+    let folder = Folder::new();
+    assert_eq!(start(&folder, &request_text(9, 3, 8, &[4, 1])).status, Some(0));
+    assert_eq!(record(&folder, 2, 0).status, Some(0));
+    let short = folder.run(&PLAN);
+    assert_eq!(
+        told(short),
+        done(
+            "frame  harvest  budget  charge\n    2        1       0       6\n\n\
+             Short: with nothing used in the 1 frame left, the end charge of 8 Wh is still missed by 2 Wh, so every budget is 0.\n"
+        )
+    );
+}
+
+#[test]
+fn a_picture_shows_what_happened_and_what_is_planned() {
+    let folder = folder_of_a_shift();
+    let drawn = folder.run(&["shift", "chart", "shift.svg", "--journal", "journal"]);
+    assert_eq!(told(drawn), done(""));
+    let picture = folder.run(&CHART);
+    assert_eq!(picture.out, folder.read("shift.svg"));
+    let text = picture.text();
+    assert!(text.starts_with("<svg ") && text.ends_with("</svg>\n"));
+    for name in [
+        "Shift: 2 of 6 frames recorded",
+        "recorded up to frame 2, planned from frame 3",
+        "now",
+    ] {
+        assert!(text.contains(name), "{name}");
+    }
+}
+
+/// The calls in a journal, without their checksums.
+fn calls(folder: &Folder) -> Vec<String> {
+    let text = String::from_utf8(folder.read("journal")).expect("a journal is text");
+    let call = |line: &str| line.split_once(" *").expect("a checksum").0.to_string();
+    text.lines().map(call).collect()
+}
+
+/// The plan of the rest as a table, from the logbook's budgets and the reference's charges.
+fn rest_table(shift: &Shift, forecast: &[u32], budgets: &[u32]) -> String {
+    let next = shift.recorded as usize;
+    let figures = Figures {
+        capacity: shift.capacity,
+        start: shift.charge,
+        end: shift.end,
+    };
+    let mut charges = vec![0; forecast.len() - next];
+    let traced = Reference.trace(figures, &forecast[next..], &budgets[next..], &mut charges);
+    traced.expect("budgets that can be traced");
+    let mut text = "frame,harvest,budget,charge\n".to_string();
+    for (i, charge) in (next..).zip(charges) {
+        text += &format!("{},{},{},{charge}\n", i + 1, forecast[i], budgets[i]);
+    }
+    text
+}
+
+/// A shift's calls, refused ones among them: each is answered as the logbook says, and the journal holds the accepted ones.
+fn assert_logbooks(random: &mut Random) {
+    let folder = Folder::new();
+    let frames = 1 + random.up_to(6) as usize;
+    let forecast = random.list(frames, 9);
+    let capacity = random.up_to_u32(12);
+    let figures = Figures {
+        capacity,
+        start: random.up_to_u32(capacity),
+        end: random.up_to_u32(capacity / 2),
+    };
+    let request = request_text(capacity, figures.start, figures.end, &forecast);
+    let started = start(&folder, &request);
+    if let Err(refusal) = Reference.shift_start(figures, &forecast) {
+        assert_eq!((started.status, started.text()), (Some(1), format!("{refusal}\n")));
+        assert!(folder.names().is_empty());
+        return;
+    }
+    let mut logbook = Logbook::open(figures, &forecast);
+    assert_eq!(
+        told(started),
+        done(&format!("Started. {}", standing(&logbook.record_now())))
+    );
+    let line = column(&forecast).trim_end().replace('\n', " ");
+    let mut accepted = vec![format!(
+        "start capacity {capacity} start {} end {} harvest {line}",
+        figures.start, figures.end
+    )];
+    let mut rows = "frame,harvest,use,charge\n".to_string();
+    for _ in 0..2 * frames + 2 {
+        let harvest = if random.one_in(8) {
+            400_001
+        } else {
+            random.up_to_u32(12)
+        };
+        let used = random.up_to_u32(logbook.record_now().charge + harvest.min(12) + 2);
+        let before = folder.read("journal");
+        let recorded = record(&folder, harvest, used);
+        match logbook.record(harvest, used) {
+            Ok(()) => {
+                let shift = logbook.record_now();
+                let answer = format!("Recorded frame {}. {}", shift.recorded, standing(&shift));
+                assert_eq!(told(recorded), done(&answer));
+                accepted.push(format!("record {harvest} {used}"));
+                rows += &format!("{},{harvest},{used},{}\n", shift.recorded, shift.charge);
+            }
+            Err(refusal) => {
+                assert_eq!((recorded.status, recorded.text()), (Some(1), format!("{refusal}\n")));
+                assert_eq!(folder.read("journal"), before, "a refused call is not written");
+            }
+        }
+        let mut budgets = vec![0; frames];
+        let plan = folder.run(&[&PLAN[..], &["--csv"]].concat());
+        match logbook.plan_rest(&forecast, &mut budgets) {
+            Ok(rest) => {
+                assert_eq!(
+                    told(plan),
+                    done(&rest_table(&logbook.record_now(), &forecast, &budgets))
+                );
+                let words = folder.run(&PLAN).text();
+                let missed = match rest {
+                    Rest::Planned => " left: ".to_string(),
+                    Rest::Short { missing } => format!("missed by {missing} Wh"),
+                };
+                assert!(words.contains(&missed), "{words}");
+            }
+            Err(refusal) => {
+                assert_eq!(plan.status, Some(1));
+                assert!(plan.err.starts_with(&format!("gomzhiva: {refusal}: ")));
+            }
+        }
+        assert_eq!(calls(&folder), accepted);
+        assert_eq!(told(folder.run(&SHOW)), done(&rows));
+    }
+    assert!(logbook.balances());
+}
+
+#[test]
+fn every_call_is_answered_as_the_logbook_says() {
+    (0..60).for_each(|case| assert_logbooks(&mut Random::of_case(seed(), case)));
+}
+
+#[test]
+fn a_frame_that_is_not_the_next_is_not_recorded() {
+    let folder = folder_of_a_shift();
+    let before = folder.read("journal");
+    let record = |frame: &str| folder.run(&["shift", "record", "1", "1", "--frame", frame, "--journal", "journal"]);
+    for frame in ["0", "2", "4"] {
+        let ran = record(frame);
+        let message = format!("gomzhiva: --frame {frame}: the next frame is 3; nothing is recorded\n");
+        assert_eq!(told(ran), (Some(2), String::new(), message));
+        assert_eq!(folder.read("journal"), before);
+    }
+    assert!(record("3").text().starts_with("Recorded frame 3. "));
+}
+
+#[test]
+fn a_torn_last_line_is_dropped_with_a_notice() {
+    let folder = folder_of_a_shift();
+    let whole = folder.read("journal");
+    let kept = whole.len()
+        - 1
+        - whole
+            .iter()
+            .rev()
+            .skip(1)
+            .position(|&b| b == b'\n')
+            .expect("three lines");
+    for length in kept..whole.len() {
+        for zeros in [0, 5] {
+            let torn = [&whole[..length], &vec![0; zeros]].concat();
+            folder.write("journal", &torn);
+            let notice = if torn.len() > kept {
+                "journal:3:1: dropped a torn last line: its recording was never answered\n"
+            } else {
+                ""
+            };
+            let rows = "frame,harvest,use,charge\n1,1,3,0\n".to_string();
+            assert_eq!(told(folder.run(&SHOW)), (Some(0), rows, notice.to_string()));
+            assert_eq!(folder.read("journal"), torn, "looking changes nothing");
+            let again = record(&folder, 14, 2);
+            assert_eq!((again.status, again.err.as_str()), (Some(0), notice));
+            assert_eq!(folder.read("journal"), whole);
+        }
+    }
+}
+
+/// Every command on the journal is refused at this line, and the journal stays as it is.
+fn assert_damaged(folder: &Folder, line: usize) {
+    let before = folder.read("journal");
+    let place = format!("journal:{line}:1: ");
+    for arguments in [
+        &SHOW[..],
+        &PLAN,
+        &CHART,
+        &["shift", "record", "1", "1", "--journal", "journal"],
+    ] {
+        let ran = folder.run(arguments);
+        assert_eq!((ran.status, ran.text().as_str()), (Some(2), ""), "{before:?}");
+        assert!(
+            ran.err.starts_with(&place) && ran.err.contains(" is expected, found "),
+            "{}",
+            ran.err
+        );
+    }
+    assert_eq!(folder.read("journal"), before);
+    assert_eq!(folder.names(), ["journal"]);
+}
+
+#[test]
+fn every_damage_is_refused_with_its_line() {
+    let folder = folder_of_a_shift();
+    let whole = folder.read("journal");
+    let mut line = 1;
+    for (i, byte) in whole.iter().enumerate() {
+        let mut damaged = whole.clone();
+        damaged[i] = if *byte == b'1' { b'2' } else { b'1' };
+        folder.write("journal", damaged);
+        assert_damaged(&folder, line);
+        line += usize::from(*byte == b'\n');
+    }
+    let text = String::from_utf8(whole).expect("a journal is text");
+    let lines: Vec<&str> = text.split_inclusive('\n').collect();
+    let (first, second, third) = (lines[0], lines[1], lines[2]);
+    for (damaged, line) in [
+        (format!("{first}{third}"), 2),
+        (format!("{first}{third}{second}"), 2),
+        (format!("{second}{third}"), 1),
+        (format!("{first}{first}"), 2),
+        (format!("{text}{third}"), 4),
+        (format!("{text}\n"), 4),
+        (format!("{first}\n{second}{third}"), 2),
+        (format!("{text}start"), 4),
+        (format!("{text}record 1 x"), 4),
+        (format!("{text}record 1 2 *00000000"), 4),
+        (text.replace('\n', "\r\n"), 1),
+        (format!("\u{feff}{text}"), 1),
+        (text.trim_end().replace('\n', " "), 1),
+        (first.trim_end().to_string(), 1),
+    ] {
+        folder.write("journal", damaged);
+        assert_damaged(&folder, line);
+    }
+}
+
+#[test]
+fn what_is_no_journal_is_refused() {
+    let folder = Folder::new();
+    for foreign in [
+        &b""[..],
+        b"\n",
+        DAY.as_bytes(),
+        &common::day_words(),
+        b"\xff\xfe",
+        &[0; 5000],
+    ] {
+        folder.write("journal", foreign);
+        assert_damaged(&folder, 1);
+    }
+    let zero = folder.run(&["shift", "show", "--journal", "/dev/zero"]);
+    assert_eq!(zero.status, Some(2), "an endless file is no journal: {}", zero.err);
+    fs::create_dir(folder.file("directory")).expect("a directory");
+    for (name, reason) in [("none", "No such file or directory"), ("directory", "Is a directory")] {
+        for command in [&["show"][..], &["plan"], &["chart"], &["record", "1", "1"]] {
+            let ran = folder.run(&[&["shift"], command, &["--journal", name]].concat());
+            assert_eq!(
+                told(ran),
+                (Some(3), String::new(), format!("gomzhiva: {name}: {reason}\n"))
+            );
+        }
+    }
+    assert_eq!(folder.names(), ["directory", "journal"]);
+}
+
+#[test]
+fn a_journal_that_is_there_is_not_started_again() {
+    let folder = folder_of_a_shift();
+    let before = folder.read("journal");
+    let again = start(&folder, DAY);
+    assert_eq!(
+        told(again),
+        (Some(3), String::new(), "gomzhiva: journal: File exists\n".to_string())
+    );
+    let missing = folder.run_with(&["shift", "start", "-", "--journal", "none/journal"], DAY.as_bytes());
+    assert_eq!(missing.err, "gomzhiva: none/journal: No such file or directory\n");
+    assert_eq!(
+        (folder.read("journal"), folder.names()),
+        (before, vec!["journal".to_string()])
+    );
+}
+
+#[test]
+fn a_journal_that_may_only_be_read_is_shown() {
+    let folder = folder_of_a_shift();
+    folder.permit(".", 0o777);
+    folder.permit("journal", 0o444);
+    let before = folder.read("journal");
+    assert_eq!(told(folder.run_unprivileged(&SHOW)), done(SHOWN));
+    assert_eq!(folder.run_unprivileged(&PLAN).status, Some(0));
+    let record = folder.run_unprivileged(&["shift", "record", "1", "1", "--journal", "journal"]);
+    assert_eq!(
+        told(record),
+        (
+            Some(3),
+            String::new(),
+            "gomzhiva: journal: Permission denied\n".to_string()
+        )
+    );
+    assert_eq!(folder.read("journal"), before);
+}
+
+#[test]
+fn a_recording_that_cannot_be_written_leaves_the_journal_as_it_was() {
+    let folder = folder_of_a_shift();
+    let before = folder.read("journal");
+    let faults = folder.faults();
+    let faulty = |arguments: &[&str], limit: &str, count: &str| {
+        let mut command = folder.command(arguments);
+        command
+            .env("LD_PRELOAD", &faults)
+            .env("PIECE", "4")
+            .env(limit, count)
+            .env("ERRNO", "28");
+        told(command.stdin(Stdio::null()).output().expect("the program ends").into())
+    };
+    for (limit, count) in [("WRITES", "0"), ("WRITES", "2"), ("WRITES", "5"), ("SYNCS", "0")] {
+        let recorded = faulty(&["shift", "record", "1", "3", "--journal", "journal"], limit, count);
+        let reason = "gomzhiva: journal: No space left on device\n".to_string();
+        assert_eq!(recorded, (Some(3), String::new(), reason));
+        assert_eq!(folder.read("journal"), before, "{limit} {count}");
+    }
+    folder.write("day.txt", DAY);
+    for (limit, count) in [("WRITES", "0"), ("WRITES", "5"), ("SYNCS", "0")] {
+        let started = faulty(&["shift", "start", "day.txt", "--journal", "new"], limit, count);
+        assert_eq!(started.2, "gomzhiva: new: No space left on device\n");
+        assert_eq!(folder.names(), ["day.txt", "faults.so", "journal"]);
+    }
+}
+
+#[test]
+fn a_locked_journal_is_waited_for() {
+    let folder = folder_of_a_shift();
+    let journal = File::open(folder.file("journal")).expect("the journal");
+    flock(&journal, FlockOperation::LockExclusive).expect("a lock");
+    for arguments in [&SHOW[..], &["shift", "record", "0", "0", "--journal", "journal"]] {
+        let mut command = folder.command(arguments);
+        let mut waiting = command
+            .stdin(Stdio::null())
+            .stdout(Stdio::piped())
+            .spawn()
+            .expect("the program starts");
+        thread::sleep(Duration::from_millis(200));
+        assert_eq!(waiting.try_wait().expect("a child"), None, "{arguments:?} waits");
+        flock(&journal, FlockOperation::Unlock).expect("no lock");
+        assert_eq!(waiting.wait().expect("a child").code(), Some(0));
+        flock(&journal, FlockOperation::LockExclusive).expect("a lock");
+    }
+}
+
+#[test]
+fn two_writers_at_once_record_each_frame_once() {
+    const EACH: u32 = 40;
+    let folder = Folder::new();
+    let request = request_text(1000, 0, 0, &vec![5; 2 * EACH as usize]);
+    assert_eq!(start(&folder, &request).status, Some(0));
+    let writer = |first: u32| -> Vec<String> {
+        let answered = (0..EACH).map(|i| (first + i, record(&folder, first + i, 0)));
+        let frame = |(figure, ran): (u32, Ran)| {
+            let text = ran.text();
+            let frame = text
+                .strip_prefix("Recorded frame ")
+                .and_then(|rest| rest.split('.').next());
+            format!("{}:{figure}", frame.expect("an answer"))
+        };
+        answered.map(frame).collect()
+    };
+    let (one, other) = thread::scope(|scope| {
+        let other = scope.spawn(|| writer(1000));
+        (writer(0), other.join().expect("a writer"))
+    });
+    let mut answered = [one, other].concat();
+    let shown = folder.run(&SHOW).text();
+    let row = |row: &str| row.split(',').take(2).collect::<Vec<_>>().join(":");
+    let mut rows: Vec<String> = shown.lines().skip(1).map(row).collect();
+    answered.sort();
+    rows.sort();
+    assert_eq!(answered, rows, "each answer's frame with its figure");
+}
+
+#[test]
+fn of_several_starts_at_once_one_is_the_journals() {
+    let folder = Folder::new();
+    let started: Vec<(u32, Ran)> = thread::scope(|scope| {
+        let begin = |end: u32| (end, start(&folder, &request_text(9, 9, end, &[1])));
+        let starts: Vec<_> = (0..8).map(|end| scope.spawn(move || begin(end))).collect();
+        starts.into_iter().map(|start| start.join().expect("a start")).collect()
+    });
+    let won: Vec<u32> = started
+        .iter()
+        .filter(|(_, ran)| ran.status == Some(0))
+        .map(|(end, _)| *end)
+        .collect();
+    assert_eq!(won.len(), 1, "{started:?}");
+    assert!(started
+        .iter()
+        .all(|(_, ran)| ran.status == Some(0) || ran.err == "gomzhiva: journal: File exists\n"));
+    assert_eq!(
+        calls(&folder),
+        [format!("start capacity 9 start 9 end {} harvest 1", won[0])]
+    );
+    assert_eq!(folder.names(), ["journal"]);
+}
