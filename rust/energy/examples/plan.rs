@@ -24,7 +24,7 @@ fn run() -> Result<(), Refusal> {
     println!("needed: {}", Linked.needed(figures.start, figures.end, &harvest)?);
 
     let shift = Linked.shift_start(figures, &harvest)?;
-    let shift = Linked.shift_record(shift, 1, 3).map_err(|not| not.refusal)?;
+    let shift = Linked.shift_record(shift, 1, 3)?;
     Linked.shift_plan_rest(shift, &harvest, &mut budgets)?;
     print_budgets("rest", Linked.shift_rest_part(shift, &budgets)?);
     Ok(())

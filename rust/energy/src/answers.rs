@@ -41,6 +41,12 @@ pub struct NotRecorded {
     pub shift: Shift,
 }
 
+impl From<NotRecorded> for Refusal {
+    fn from(not: NotRecorded) -> Refusal {
+        not.refusal
+    }
+}
+
 /// What a word file holds besides its harvests.
 #[derive(Clone, Copy, Debug, PartialEq, Eq)]
 pub struct FileRead {

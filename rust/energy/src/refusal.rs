@@ -95,7 +95,7 @@ impl Refusal {
                 "there are more than {MAX_FRAMES} frames, or the word file has more than {MAX_FILE_BYTES} bytes"
             ),
             Refusal::CapacityOverLimit => {
-                format!("the capacity, or where none is given the start or end charge, is above {MAX_CAPACITY} Wh")
+                format!("the capacity, or for the needed capacity the start or end charge, is above {MAX_CAPACITY} Wh")
             }
             Refusal::StartAboveCapacity => "the start charge is above the capacity".into(),
             Refusal::EndAboveCapacity => "the end charge is above the capacity".into(),
