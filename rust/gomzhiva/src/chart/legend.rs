@@ -3,6 +3,7 @@
 use super::marks::{self, Point};
 use super::scale::{grouped, Scale};
 use super::{text_style, Drawn, Page, Picture, LETTER, LIFT};
+use crate::report::sum;
 use plotters::style::text_anchor::{HPos, Pos, VPos};
 
 const ROW: i32 = 100;
@@ -62,8 +63,8 @@ impl Legend {
     }
 
     pub fn of_energy(picture: &Picture<'_>) -> Legend {
-        let total = |list: &[u32]| grouped(list.iter().map(|&part| i128::from(part)).sum());
-        let harvest = format!("harvest in each frame ({} Wh in all)", total(picture.harvest));
+        let total = |list: &[u32]| grouped(sum(list).into());
+        let harvest = format!("{} ({} Wh in all)", harvest_name(picture), total(picture.harvest));
         let budgets = format!("{} ({} Wh in all)", budget_name(picture), total(picture.budgets));
         Legend {
             frames: picture.frames(),
@@ -125,6 +126,13 @@ fn recorded_name(picture: &Picture<'_>) -> String {
         format!("recorded up to frame {last}, the last")
     } else {
         format!("recorded up to frame {last}, planned from frame {next}")
+    }
+}
+
+fn harvest_name(picture: &Picture<'_>) -> &'static str {
+    match picture.recorded {
+        recorded if recorded == 0 || recorded == picture.frames() => "harvest in each frame",
+        _ => "harvest up to now, then forecast",
     }
 }
 

@@ -24,8 +24,8 @@ const LETTER: f64 = 66.0;
 const LIFT: i32 = 7;
 
 type Page<'a> = DrawingArea<SVGBackend<'a>, Shift>;
-type Failure = DrawingAreaErrorKind<std::io::Error>;
-type Drawn = Result<(), Failure>;
+type NotDrawn = DrawingAreaErrorKind<std::io::Error>;
+type Drawn = Result<(), NotDrawn>;
 
 /// What a picture shows: one entry of each list for each frame.
 pub struct Picture<'a> {
@@ -50,26 +50,14 @@ pub struct Picture<'a> {
 pub fn svg(picture: &Picture<'_>) -> String {
     let mut text = String::new();
     let page = SVGBackend::with_string(&mut text, PAGE).into_drawing_area();
-    draw(&page, &picture.trimmed()).expect("a string takes every drawing");
+    draw(&page, picture).expect("a string takes every drawing");
     drop(page);
     sized_for_paper(&text)
 }
 
-impl<'a> Picture<'a> {
-    /// The picture with lists of one length, that of the shortest.
-    fn trimmed(&self) -> Picture<'a> {
-        let frames = self.frames();
-        Picture {
-            harvest: &self.harvest[..frames],
-            budgets: &self.budgets[..frames],
-            charges: &self.charges[..frames],
-            recorded: self.recorded.min(frames),
-            ..*self
-        }
-    }
-
+impl Picture<'_> {
     fn frames(&self) -> usize {
-        self.harvest.len().min(self.budgets.len()).min(self.charges.len())
+        self.harvest.len()
     }
 
     fn is_overdrawn(&self) -> bool {
@@ -235,23 +223,39 @@ mod tests {
     }
 
     #[test]
+    fn the_charge_after_a_frame_stands_where_its_bar_ends() {
+        let picture = Picture { recorded: 2, ..PLAN };
+        let outlines = outlines(&svg(&picture));
+        let bars = &outlines[outlines.len() - 2];
+        let steps = &outlines[outlines.len() - 1];
+        let curve = outlines
+            .iter()
+            .find(|line| line.len() == 7)
+            .expect("the charge after each frame");
+        for (frame, step) in steps.chunks(2).enumerate() {
+            assert_eq!(
+                (curve[frame].0, curve[frame + 1].0),
+                (step[0].0, step[1].0),
+                "frame {}",
+                frame + 1
+            );
+            assert!(step[0].0 < bars[4 * frame].0 && bars[4 * frame + 2].0 < step[1].0);
+        }
+        let upright = |line: &&Vec<(i32, i32)>| line.len() == 2 && line[0].0 == line[1].0;
+        let now = outlines.iter().filter(upright).filter(|line| line[0].0 == curve[2].0);
+        assert_eq!(now.count(), 2, "now is where the recorded frames end, in both plots");
+    }
+
+    #[test]
     fn a_running_shift_names_its_parts() {
         let text = svg(&Picture { recorded: 2, ..PLAN });
         assert!(text.contains("\nrecorded up to frame 2, planned from frame 3\n"));
         assert!(text.contains("\nnow\n"));
         assert!(text.contains("\nuse up to now, then budget (13 Wh in all)\n"));
-        let text = svg(&Picture { recorded: 99, ..PLAN });
+        assert!(text.contains("\nharvest up to now, then forecast (14 Wh in all)\n"));
+        let text = svg(&Picture { recorded: 6, ..PLAN });
         assert!(text.contains("\nrecorded up to frame 6, the last\n"));
         assert!(!svg(&PLAN).contains("recorded"));
-    }
-
-    #[test]
-    fn the_shortest_list_counts() {
-        let text = svg(&Picture {
-            charges: &[1, 1],
-            ..PLAN
-        });
-        assert!(text.contains("\nharvest in each frame (2 Wh in all)\n"));
     }
 
     #[test]
@@ -268,7 +272,7 @@ mod tests {
             needed: Some(u64::MAX),
             start: u32::MAX,
             end: u32::MAX,
-            recorded: 1000,
+            recorded: 1,
             ..PLAN
         };
         let pictures = [
@@ -278,7 +282,7 @@ mod tests {
             even_svg(2976, (400_000, u32::MAX, -13_000_000_000_000), most()),
             even_svg(2976, (0, u32::MAX, i64::MIN), PLAN),
             svg(&Picture {
-                charges: &[i64::MIN, i64::MAX, 0, -1],
+                charges: &[i64::MIN, i64::MAX, 0, -1, 0, 1],
                 ..most()
             }),
         ];

@@ -2,7 +2,7 @@
 
 use super::marks::{self, Point};
 use super::scale::{grouped, Scale};
-use super::{text_style, Drawn, Failure, Page, Picture, LETTER, LIFT};
+use super::{text_style, Drawn, NotDrawn, Page, Picture, LETTER, LIFT};
 use plotters::prelude::*;
 use plotters::style::text_anchor::{HPos, Pos, VPos};
 use std::iter::once;
@@ -30,7 +30,7 @@ impl<'p, 'a> Panel<'p, 'a> {
         picture: &'p Picture<'p>,
         watt_hours: Scale,
         left: i32,
-    ) -> Result<Panel<'p, 'a>, Failure> {
+    ) -> Result<Panel<'p, 'a>, NotDrawn> {
         let mut chart = ChartBuilder::on(area)
             .set_label_area_size(LabelAreaPosition::Left, left)
             .set_label_area_size(LabelAreaPosition::Bottom, NUMBER_ROW)
@@ -44,7 +44,7 @@ impl<'p, 'a> Panel<'p, 'a> {
             .axis_style(BLACK.stroke_width(6))
             .label_style(text_style(LETTER))
             .set_all_tick_mark_size(30)
-            .x_label_formatter(&frame_label)
+            .x_label_formatter(&|frame| grouped(*frame as i128))
             .y_label_formatter(&|watt_hours| grouped(*watt_hours as i128))
             .y_label_offset(LIFT)
             .y_desc("watt-hours")
@@ -66,7 +66,7 @@ impl<'p, 'a> Panel<'p, 'a> {
         marks::charge_dots(self.page, &points, frames)?;
         let end = f64::from(self.picture.end);
         if self.reaches(end) {
-            marks::end_diamond(self.page, self.point((frames as f64, end)))?;
+            marks::end_diamond(self.page, self.point((frames as f64 + 0.5, end)))?;
         }
         self.name_now()
     }
@@ -78,13 +78,13 @@ impl<'p, 'a> Panel<'p, 'a> {
         marks::budget_steps(self.page, &steps, self.picture.frames())
     }
 
-    /// The charge at the start and after each frame.
+    /// The charge at the start and at the end of each frame.
     fn charge_curve(&self) -> Vec<Spot> {
         let charges = self.picture.charges.iter().map(|&charge| charge as f64);
         let charges = once(f64::from(self.picture.start)).chain(charges);
         charges
             .enumerate()
-            .map(|(frame, charge)| (frame as f64, charge))
+            .map(|(frame, charge)| (frame as f64 + 0.5, charge))
             .collect()
     }
 
@@ -160,16 +160,9 @@ impl<'p, 'a> Panel<'p, 'a> {
     }
 }
 
-fn frame_label(frame: &f64) -> String {
-    match *frame as i128 {
-        0 => "start".to_string(),
-        frame => grouped(frame),
-    }
-}
-
 /// The corners of the area between a curve and zero, on the side of zero that `keep` keeps.
 fn area_to_zero(curve: &[Spot], keep: fn(f64, f64) -> f64) -> Vec<Spot> {
-    let mut corners = vec![(0.0, 0.0)];
+    let mut corners = vec![(0.5, 0.0)];
     for pair in curve.windows(2) {
         corners.push(pair[0]);
         corners.extend(zero_between(pair[0], pair[1]));

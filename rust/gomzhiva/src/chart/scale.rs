@@ -23,11 +23,11 @@ pub struct Scale {
 }
 
 impl Scale {
-    /// Frame `n` is the width from `n - 0.5` to `n + 0.5`; the start stands at 0.
+    /// Frame `n` is the width from `n - 0.5` to `n + 0.5`.
     pub fn of_frames(frames: usize) -> Scale {
-        let numbers = (0..=frames).step_by(frame_step(frames));
+        let numbers = (0..=frames).step_by(frame_step(frames)).skip(1);
         Scale {
-            range: -0.5..frames as f64 + 0.5,
+            range: 0.5..frames.max(1) as f64 + 0.5,
             ticks: numbers.map(|frame| frame as f64).collect(),
         }
     }
@@ -158,6 +158,6 @@ mod tests {
         assert_eq!(frame_step(96), 4);
         assert_eq!(frame_step(672), 48);
         assert_eq!(frame_step(2976), 192);
-        assert_eq!(Scale::of_frames(6).ticks, [0.0, 1.0, 2.0, 3.0, 4.0, 5.0, 6.0]);
+        assert_eq!(Scale::of_frames(6).ticks, [1.0, 2.0, 3.0, 4.0, 5.0, 6.0]);
     }
 }
