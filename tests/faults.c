@@ -1,5 +1,5 @@
-/* Preloaded into a program, so that its reads and writes move at most PIECE bytes each, after PAUSE microseconds, and the read, write or sync
- * after READS, WRITES or SYNCS of them fails with the error ERRNO, or EIO. Standard error is left alone. */
+/* Preloaded into a program, so that its reads and writes move at most PIECE bytes each, after PAUSE microseconds, and the call after so many
+ * fails with the error ERRNO, or EIO: READS, WRITES, SYNCS, CUTS (changes of a length), LINKS. Standard error is left alone. */
 #define _DEFAULT_SOURCE
 #include <errno.h>
 #include <stdlib.h>
@@ -42,4 +42,14 @@ ssize_t write(int fd, const void *bytes, size_t length) {
 int fsync(int fd) {
     static size_t calls;
     return fails("SYNCS", &calls) ? -1 : (int)syscall(SYS_fsync, fd);
+}
+
+int ftruncate64(int fd, off_t length) {
+    static size_t calls;
+    return fails("CUTS", &calls) ? -1 : (int)syscall(SYS_ftruncate, fd, length);
+}
+
+int linkat(int from_folder, const char *from, int to_folder, const char *to, int flags) {
+    static size_t calls;
+    return fails("LINKS", &calls) ? -1 : (int)syscall(SYS_linkat, from_folder, from, to_folder, to, flags);
 }

@@ -3,7 +3,6 @@
 use crate::files::Place;
 use crate::request::RequestArguments;
 use clap::{Args, Parser, Subcommand};
-use std::path::PathBuf;
 
 /// Plans the energy of a solar-powered blending room: one list of budgets, a number of watt-hours for each frame,
 /// that is feasible and best for every concave, never falling reward curve at once.
@@ -25,8 +24,9 @@ A request as text:
   harvest          # from here on a line for each frame
   6
   4
-The same with commas or semicolons between the cells of a line, as a spreadsheet saves it, is read too;
-so is a table alone, with --capacity, --start and --end.
+A table may have further columns: frame, time, charge, use, budget. Between its cells stand blanks, or tabs, commas or
+semicolons as a spreadsheet saves them; numbers are whole, without a thousands separator. A table alone is read with
+--capacity, --start and --end. As a file, - is standard input or output.
 
 Exit status: 0 done; 1 a numbered refusal; 2 bad usage, or a text that is no request or journal; 3 reading or
 writing failed. An output file is written whole or not at all.";
@@ -102,12 +102,18 @@ pub struct TraceArguments {
     pub report: ReportArguments,
 }
 
-/// How a table is shown.
 #[derive(Args, Debug)]
-pub struct ReportArguments {
+pub struct TableArguments {
     /// Print the table as CSV and nothing else
     #[arg(long)]
     pub csv: bool,
+}
+
+/// How budgets are shown.
+#[derive(Args, Debug)]
+pub struct ReportArguments {
+    #[command(flatten)]
+    pub table: TableArguments,
     /// Draw a picture into this SVG file too; with - print the picture alone
     #[arg(long, value_name = "FILE.svg")]
     pub chart: Option<Place>,
@@ -124,7 +130,7 @@ pub struct OutputArguments {
 pub struct JournalArguments {
     /// The shift's journal
     #[arg(long, value_name = "FILE")]
-    pub journal: PathBuf,
+    pub journal: Place,
 }
 
 #[derive(Subcommand, Debug)]
@@ -141,12 +147,13 @@ pub enum ShiftCommand {
     #[command(after_help = "Example:\n  gomzhiva shift record 1 3 --journal shift.journal")]
     Record {
         /// The harvest of the frame in Wh
+        #[arg(allow_negative_numbers = true)]
         harvest: u32,
         /// The use of the frame in Wh
-        #[arg(value_name = "USE")]
+        #[arg(value_name = "USE", allow_negative_numbers = true)]
         used: u32,
         /// The frame that is meant: if it is not the next one, nothing is recorded
-        #[arg(long)]
+        #[arg(long, allow_negative_numbers = true)]
         frame: Option<u32>,
         #[command(flatten)]
         journal: JournalArguments,
@@ -156,18 +163,16 @@ pub enum ShiftCommand {
     Plan {
         #[command(flatten)]
         journal: JournalArguments,
-        /// Print the table as CSV and nothing else
-        #[arg(long)]
-        csv: bool,
+        #[command(flatten)]
+        table: TableArguments,
     },
     /// Print the frames recorded, the charge and the totals
     #[command(after_help = "Example:\n  gomzhiva shift show --journal shift.journal")]
     Show {
         #[command(flatten)]
         journal: JournalArguments,
-        /// Print the table as CSV and nothing else
-        #[arg(long)]
-        csv: bool,
+        #[command(flatten)]
+        table: TableArguments,
     },
     /// Draw the frames recorded and the plan of the rest
     #[command(after_help = "Example:\n  gomzhiva shift chart shift.svg --journal shift.journal")]
@@ -184,11 +189,11 @@ impl Command {
     pub fn prints_product(&self) -> bool {
         match self {
             Command::Plan(PlanArguments { report, .. }) | Command::Trace(TraceArguments { report, .. }) => {
-                report.csv || report.draws_on_standard_output()
+                report.table.csv || report.draws_on_standard_output()
             }
             Command::Words { output, .. } | Command::Text { output, .. } => output.output.is_standard(),
             Command::Shift(ShiftCommand::Chart { output, .. }) => output.output.is_standard(),
-            Command::Shift(ShiftCommand::Plan { csv, .. } | ShiftCommand::Show { csv, .. }) => *csv,
+            Command::Shift(ShiftCommand::Plan { table, .. } | ShiftCommand::Show { table, .. }) => table.csv,
             _ => false,
         }
     }

@@ -7,8 +7,8 @@ use std::io;
 /// A command that was not done.
 #[derive(Debug)]
 pub enum Failure {
-    /// The library refused the figures, by document 01's number.
-    Refused(Refusal),
+    /// The library refused the figures, by document 01's number; the program may know more.
+    Refused { refusal: Refusal, more: String },
     /// Bad usage, or a text that is no request or no journal.
     Fault(String),
     /// Reading or writing failed.
@@ -25,21 +25,28 @@ impl Failure {
         }
     }
 
-    /// A failed call of the system after something was done that stays done.
-    pub fn after(self, done: &str) -> Failure {
+    /// The same failure with more to tell.
+    pub fn with(mut self, more: &str) -> Failure {
+        match &mut self {
+            Failure::Refused { more: text, .. } | Failure::Fault(text) | Failure::System { reason: text, .. } => {
+                *text += &format!("; {more}");
+            }
+        }
+        self
+    }
+
+    /// The refusal, if it is one.
+    pub fn refusal(&self) -> Option<Refusal> {
         match self {
-            Failure::System { name, reason } => Failure::System {
-                name,
-                reason: format!("{reason}; {done} all the same"),
-            },
-            other => other,
+            Failure::Refused { refusal, .. } => Some(*refusal),
+            _ => None,
         }
     }
 
     /// The exit status.
     pub fn status(&self) -> u8 {
         match self {
-            Failure::Refused(_) => 1,
+            Failure::Refused { .. } => 1,
             Failure::Fault(_) => 2,
             Failure::System { .. } => 3,
         }
@@ -48,14 +55,15 @@ impl Failure {
 
 impl From<Refusal> for Failure {
     fn from(refusal: Refusal) -> Failure {
-        Failure::Refused(refusal)
+        let more = String::new();
+        Failure::Refused { refusal, more }
     }
 }
 
 impl fmt::Display for Failure {
     fn fmt(&self, f: &mut fmt::Formatter<'_>) -> fmt::Result {
         match self {
-            Failure::Refused(refusal) => write!(f, "gomzhiva: {refusal}: {}", refusal.sentence()),
+            Failure::Refused { refusal, more } => write!(f, "gomzhiva: {refusal}: {}{more}", refusal.sentence()),
             Failure::Fault(message) => f.write_str(message),
             Failure::System { name, reason } => write!(f, "gomzhiva: {name}: {reason}"),
         }

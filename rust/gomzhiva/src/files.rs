@@ -2,9 +2,12 @@
 
 use crate::failure::Failure;
 use crate::streams;
+use rustix::fs::{cwd, fchown, renameat_with, RenameFlags};
+use rustix::process::{Gid, Uid};
 use std::ffi::OsString;
-use std::fs::{self, File, OpenOptions, Permissions};
+use std::fs::{self, File, Metadata, OpenOptions};
 use std::io::{self, Read, Write};
+use std::os::unix::fs::MetadataExt;
 use std::path::{Path, PathBuf};
 use std::process;
 
@@ -23,9 +26,28 @@ impl From<OsString> for Place {
 }
 
 impl Place {
-    /// Standard input or output.
+    /// Standard input or output, also by the names that stand for what these are connected to.
     pub fn is_standard(&self) -> bool {
-        self.0.as_os_str() == "-"
+        ["-", "/dev/stdin", "/dev/stdout"]
+            .iter()
+            .any(|name| self.0.as_os_str() == *name)
+    }
+
+    /// The file that it names.
+    pub fn file(&self) -> Option<&Path> {
+        (!self.is_standard()).then_some(self.0.as_path())
+    }
+
+    /// Refuses an output that is one of the inputs: it would take their place.
+    pub fn is_none_of(&self, inputs: &[&Place]) -> Result<(), Failure> {
+        let same = |input: &&&Place| is_same(self.file(), input.file());
+        match inputs.iter().find(same) {
+            None => Ok(()),
+            Some(_) => Err(Failure::Fault(format!(
+                "gomzhiva: {}: an output that is no input is expected; nothing is written",
+                self.0.display()
+            ))),
+        }
     }
 
     /// What messages call it as an input.
@@ -73,47 +95,91 @@ fn read_file(path: &Path) -> io::Result<Vec<u8>> {
     Ok(bytes)
 }
 
+/// Two names of one file.
+fn is_same(one: Option<&Path>, other: Option<&Path>) -> bool {
+    let known = |path: Option<&Path>| path.and_then(|path| fs::metadata(path).ok());
+    match (known(one), known(other)) {
+        (Some(one), Some(other)) => one.is_file() && identity(&one) == identity(&other),
+        _ => false,
+    }
+}
+
+/// What a file is whatever its name.
+pub fn identity(known: &Metadata) -> (u64, u64) {
+    (known.dev(), known.ino())
+}
+
 /// Puts the bytes in the place of what a file held, if that may be written; what is no regular file, such as a device, is
 /// written as it is.
 fn replace(path: &Path, bytes: &[u8]) -> io::Result<()> {
-    let rename = |new: &Path, path: &Path| fs::rename(new, path);
-    match OpenOptions::new().write(true).open(path) {
-        Ok(mut file) => {
-            let known = file.metadata()?;
-            if known.is_file() {
-                put(&fs::canonicalize(path)?, bytes, Some(known.permissions()), rename)
-            } else {
-                file.write_all(bytes)
-            }
+    let known = match OpenOptions::new().write(true).open(path) {
+        Ok(mut file) => match file.metadata()? {
+            known if known.is_file() => Some(known),
+            _ => return file.write_all(bytes),
+        },
+        Err(error) if error.kind() == io::ErrorKind::NotFound => None,
+        Err(error) => return Err(error),
+    };
+    put(&linked(path), bytes, known, |new, path| fs::rename(new, path))?.sync_all()
+}
+
+/// The file that a symbolic link leads to, whether or not it is there.
+fn linked(path: &Path) -> PathBuf {
+    let mut path = path.to_path_buf();
+    while let Ok(target) = fs::read_link(&path) {
+        path = folder_of(&path).join(target);
+    }
+    path
+}
+
+fn folder_of(path: &Path) -> &Path {
+    match path.parent() {
+        Some(parent) if !parent.as_os_str().is_empty() => parent,
+        _ => Path::new("."),
+    }
+}
+
+/// Makes a file that must not be there yet, and is not if its name cannot be synced.
+pub fn create(path: &Path, bytes: &[u8]) -> io::Result<()> {
+    let folder = put(path, bytes, None, name_first)?;
+    folder.sync_all().map_err(|error| {
+        let _ = fs::remove_file(path);
+        error
+    })
+}
+
+/// Gives a file a name that nothing has: by a link, or where the file system has none, such as FAT, by a renaming.
+fn name_first(new: &Path, path: &Path) -> io::Result<()> {
+    match fs::hard_link(new, path) {
+        Ok(()) => {
+            // The file has its own name now, and loses nothing with the other one.
+            let _ = fs::remove_file(new);
+            Ok(())
         }
-        Err(error) if error.kind() == io::ErrorKind::NotFound => put(path, bytes, None, rename),
+        Err(error) if error.kind() == io::ErrorKind::PermissionDenied => {
+            Ok(renameat_with(cwd(), new, cwd(), path, RenameFlags::NOREPLACE)?)
+        }
         Err(error) => Err(error),
     }
 }
 
-/// Makes a file that must not be there yet.
-pub fn create(path: &Path, bytes: &[u8]) -> io::Result<()> {
-    put(path, bytes, None, |new, path| fs::hard_link(new, path))
-}
-
-/// Writes and syncs the bytes under another name in the same folder, then gives them their own name.
+/// Writes and syncs the bytes under another name in the same folder, then gives them their own name; the folder is still to
+/// be synced. What is known of a file that they replace, its owner and permissions, stays.
 fn put(
     path: &Path,
     bytes: &[u8],
-    permissions: Option<Permissions>,
+    known: Option<Metadata>,
     give_name: impl Fn(&Path, &Path) -> io::Result<()>,
-) -> io::Result<()> {
-    let folder = match path.parent() {
-        Some(parent) if !parent.as_os_str().is_empty() => parent,
-        _ => Path::new("."),
-    };
-    let names = File::open(folder)?;
-    let (file, new) = new_file(folder)?;
-    let named = fill(file, bytes, permissions).and_then(|()| give_name(&new, path));
-    // After a renaming there is nothing left to remove.
-    let _ = fs::remove_file(&new);
-    named?;
-    names.sync_all()
+) -> io::Result<File> {
+    let folder = File::open(folder_of(path))?;
+    let (file, new) = new_file(folder_of(path))?;
+    match fill(file, bytes, known).and_then(|()| give_name(&new, path)) {
+        Ok(()) => Ok(folder),
+        Err(error) => {
+            let _ = fs::remove_file(&new);
+            Err(error)
+        }
+    }
 }
 
 /// A file under a name that nothing else has.
@@ -128,9 +194,16 @@ fn new_file(folder: &Path) -> io::Result<(File, PathBuf)> {
     }
 }
 
-fn fill(mut file: File, bytes: &[u8], permissions: Option<Permissions>) -> io::Result<()> {
-    if let Some(permissions) = permissions {
-        file.set_permissions(permissions)?;
+fn fill(mut file: File, bytes: &[u8], known: Option<Metadata>) -> io::Result<()> {
+    if let Some(known) = known {
+        let own = file.metadata()?;
+        if (known.uid(), known.gid()) != (own.uid(), own.gid()) {
+            // SAFETY: both numbers are those of a file.
+            let (owner, group) = unsafe { (Uid::from_raw(known.uid()), Gid::from_raw(known.gid())) };
+            // Who may not give a file away keeps it; the permissions stay in either case.
+            let _ = fchown(&file, Some(owner), Some(group));
+        }
+        file.set_permissions(known.permissions())?;
     }
     file.write_all(bytes)?;
     file.sync_all()

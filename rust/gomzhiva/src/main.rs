@@ -14,22 +14,17 @@ mod streams;
 use clap::Parser;
 use cli::Cli;
 use failure::Failure;
-use std::io::{self, Write};
 use std::process::ExitCode;
 
 fn main() -> ExitCode {
-    let done = match Cli::try_parse() {
-        Ok(cli) => tell(commands::run(&cli.command), cli.command.prints_product()),
-        Err(error) if error.use_stderr() => Err(Failure::Fault(whole(&error))),
-        Err(help) => files::print(&(whole(&help) + "\n")),
+    let (done, prints_product) = match Cli::try_parse() {
+        Ok(cli) => (commands::run(&cli.command), cli.command.prints_product()),
+        Err(error) if error.use_stderr() => (Err(Failure::Fault(whole(&error))), true),
+        Err(help) => (files::print(&(whole(&help) + "\n")), true),
     };
     match done {
         Ok(()) => ExitCode::SUCCESS,
-        Err(failure) => {
-            // Where standard error is closed too, the status alone remains.
-            let _ = writeln!(io::stderr(), "{failure}");
-            ExitCode::from(failure.status())
-        }
+        Err(failure) => ExitCode::from(tell(&failure, prints_product)),
     }
 }
 
@@ -38,13 +33,19 @@ fn whole(message: &clap::Error) -> String {
     message.render().to_string().trim_end().to_string()
 }
 
-/// Prints a refusal on standard output, as document 01 has it, where that is not the product itself.
-fn tell(done: Result<(), Failure>, prints_product: bool) -> Result<(), Failure> {
-    match done {
-        Err(Failure::Refused(refusal)) if !prints_product => {
-            files::print(&format!("{refusal}\n"))?;
-            done
+/// Tells a failure on standard error, and gives the status. A refusal stands on standard output too, as document 01 has it,
+/// where that is not the product itself.
+fn tell(failure: &Failure, prints_product: bool) -> u8 {
+    let printed = match failure.refusal() {
+        Some(refusal) if !prints_product => files::print(&format!("{refusal}\n")),
+        _ => Ok(()),
+    };
+    streams::tell(failure);
+    match printed {
+        Ok(()) => failure.status(),
+        Err(unprinted) => {
+            streams::tell(&unprinted);
+            unprinted.status()
         }
-        _ => done,
     }
 }

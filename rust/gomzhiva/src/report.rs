@@ -9,7 +9,7 @@ pub struct Table<'a> {
 
 impl Table<'_> {
     fn rows(&self) -> usize {
-        self.columns.iter().map(|(_, list)| list.len()).min().unwrap_or(0)
+        self.columns[0].1.len()
     }
 
     /// Aligned to the right, two blanks between columns.
@@ -78,6 +78,15 @@ pub fn mean(list: &[u32]) -> String {
 pub fn counted(number: usize, noun: &str) -> String {
     let end = if number == 1 { "" } else { "s" };
     format!("{number} {noun}{end}")
+}
+
+/// The charge at the end against the one that was asked for, in words.
+pub fn ending(last: i64, end: u32) -> String {
+    if last < i64::from(end) {
+        format!("the charge ends at {last} Wh, below the end charge of {end} Wh")
+    } else {
+        format!("the charge ends at {last} Wh, and {end} Wh were asked for")
+    }
 }
 
 /// The sentence with a capital letter.

@@ -6,6 +6,7 @@ use common::{check, day_words, request_text, Folder, Ran, DAY};
 use energy::{Energy, Figures, LISTING_BYTES, MAX_CAPACITY, MAX_FILE_BYTES, MAX_FRAMES, MAX_HARVEST};
 use evidence::reference::Reference;
 use proptest::prelude::*;
+use std::fs;
 
 const TABLE: &str = "\
 frame  harvest  budget  charge
@@ -271,7 +272,10 @@ fn budgets_of_another_length_and_malformed_files_are_refused() {
         ("torn", "refused 8 9"),
         ("long", "refused 2 0"),
     ] {
-        assert_refused(&folder.run(&["plan", file]), line);
+        let plan = folder.run(&["plan", file]);
+        assert_refused(&plan, line);
+        let more = format!("; {file} has a byte 0 and so is no text (a spreadsheet is read as CSV in UTF-8)\n");
+        assert!(plan.err.ends_with(&more), "{}", plan.err);
         assert_refused(&folder.run(&["plan", "--listing", file]), line);
         assert_refused(&folder.run(&["needed", file]), line);
         assert_refused(&folder.run_with(&["trace", file, "-"], b"1"), line);
@@ -317,7 +321,7 @@ fn texts_that_are_no_request_name_their_place() {
     assert_eq!(open.status, Some(2));
     assert_eq!(
         open.err,
-        "standard input:3:1: 'capacity' with its number before the table, or the option --capacity, is expected, found the end of the text\n"
+        "standard input:1:1: capacity, end (as lines before the table, or as options such as --capacity 5) is expected, found 'harvest'\n"
     );
 }
 
@@ -335,15 +339,60 @@ fn bad_usage_is_told_on_standard_error() {
         &["plan", "day.txt", "--listing", "--chart", "x.svg"],
         &["trace", "day.txt"],
         &["trace", "-", "-"],
+        &["trace", "/dev/stdin", "-"],
+        &["plan", "day.txt", "--csv", "--chart", "-"],
+        &["trace", "day.txt", "day.csv", "--csv", "--chart", "-"],
         &["shift"],
         &["shift", "start", "day.txt"],
         &["shift", "record", "1", "--journal", "journal"],
         &["shift", "record", "1", "x", "--journal", "journal"],
+        &["shift", "record", "1", "-1", "--journal", "journal"],
+        &["shift", "start", "day.txt", "--journal", "-"],
+        &["shift", "show", "--journal", "-"],
     ] {
         let ran = folder.run(arguments);
         assert_eq!((ran.status, ran.text().as_str()), (Some(2), ""), "{arguments:?}");
         assert!(!ran.err.is_empty(), "{arguments:?}");
     }
+    assert_eq!(folder.names(), ["day.csv", "day.txt", "day.words"]);
+}
+
+#[test]
+fn an_output_is_none_of_the_inputs() {
+    let folder = folder_of_the_day();
+    folder.write("budgets", "4 3 3 2 4 4");
+    fs::hard_link(folder.file("day.txt"), folder.file("link.txt")).expect("a link");
+    let outputs: [(&[&str], &str); 6] = [
+        (&["words", "day.txt", "day.txt"], "day.txt"),
+        (&["words", "day.txt", "link.txt"], "link.txt"),
+        (&["text", "day.words", "day.words"], "day.words"),
+        (&["plan", "day.txt", "--chart", "./day.txt"], "./day.txt"),
+        (&["trace", "day.txt", "budgets", "--chart", "budgets"], "budgets"),
+        (&["trace", "day.txt", "budgets", "--chart", "day.txt"], "day.txt"),
+    ];
+    for (arguments, output) in outputs {
+        let ran = folder.run(arguments);
+        let message = format!("gomzhiva: {output}: an output that is no input is expected; nothing is written\n");
+        assert_eq!((ran.status, ran.err), (Some(2), message), "{arguments:?}");
+    }
+    assert_eq!(
+        (folder.read("day.txt"), folder.read("day.words")),
+        (DAY.into(), day_words())
+    );
+}
+
+#[test]
+fn budgets_that_are_not_feasible_are_told_so_in_every_form() {
+    let folder = folder_of_the_day();
+    let trace = |more: &[&str]| folder.run_with(&[&["trace", "day.txt", "-"], more].concat(), b"4 4 4 4 2 2");
+    let warning = "gomzhiva: Not feasible: the charge after frame 4 is below zero.\n";
+    for more in [&["--csv"][..], &["--chart", "-"], &["--csv", "--chart", "out.svg"]] {
+        let ran = trace(more);
+        assert_eq!((ran.status, ran.err.as_str()), (Some(0), warning), "{more:?}");
+    }
+    assert!(trace(&["--chart", "-"])
+        .text()
+        .contains("standard input traced with day.txt: not feasible"));
 }
 
 #[test]

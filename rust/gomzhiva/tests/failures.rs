@@ -4,7 +4,7 @@ mod common;
 
 use common::{day_words, Folder, Ran, DAY};
 use std::fs::{self, File};
-use std::os::unix::fs::{symlink, PermissionsExt};
+use std::os::unix::fs::{symlink, MetadataExt, PermissionsExt};
 use std::os::unix::io::OwnedFd;
 use std::os::unix::net::UnixStream;
 use std::process::{Command, Stdio};
@@ -30,13 +30,12 @@ fn assert_failed(ran: &Ran, message: &str) {
     );
 }
 
-/// Every command that prints, a refused one among them.
-const PRINTING: [&[&str]; 16] = [
+/// Every command that prints.
+const PRINTING: [&[&str]; 15] = [
     &["plan", "day.txt"],
     &["plan", "day.txt", "--csv"],
     &["plan", "day.txt", "--listing"],
     &["plan", "day.txt", "--chart", "-"],
-    &["plan", "day.txt", "--capacity", "1"],
     &["needed", "day.txt"],
     &["trace", "day.txt", "budgets"],
     &["trace", "day.txt", "budgets", "--csv"],
@@ -83,6 +82,11 @@ fn an_output_that_is_closed_full_or_unread() {
         let silent = redirected(&folder, arguments, ">/dev/full 2>&-");
         assert_eq!(silent.status, Some(3), "the status remains where nothing can be told");
     }
+    let refused = redirected(&folder, &["plan", "day.txt", "--capacity", "1"], ">/dev/full");
+    assert_failed(
+        &refused,
+        "refused 4 0: the start charge is above the capacity\ngomzhiva: standard output: No space left on device",
+    );
 }
 
 #[test]
@@ -182,6 +186,29 @@ fn an_output_file_is_whole_or_as_it_was() {
 }
 
 #[test]
+fn a_limit_on_the_size_of_files_is_a_failed_write() {
+    let folder = folder_of_the_day();
+    let (names, journal) = (folder.names(), folder.read("journal"));
+    let calls: [(&[&str], &str); 2] = [
+        (&["words", "day.txt", "out"], "out: File too large"),
+        (
+            &["shift", "record", "1", "3", "--journal", "journal"],
+            "journal: File too large",
+        ),
+    ];
+    for (arguments, message) in calls {
+        let mut shell = Command::new("sh");
+        shell.args(["-c", "ulimit -f 0; exec \"$0\" \"$@\"", env!("CARGO_BIN_EXE_gomzhiva")]);
+        shell.args(arguments).current_dir(folder.path()).stdin(Stdio::null());
+        assert_failed(&shell.output().expect("a shell").into(), message);
+        assert_eq!(
+            (folder.names(), folder.read("journal")),
+            (names.clone(), journal.clone())
+        );
+    }
+}
+
+#[test]
 fn outputs_that_cannot_be_written() {
     let folder = folder_of_the_day();
     fs::create_dir(folder.file("directory")).expect("a directory");
@@ -219,9 +246,35 @@ fn links_permissions_and_devices_stay() {
     assert!(mode("link").file_type().is_symlink());
     assert_eq!(folder.run(&["words", "day.txt", "/dev/null"]).status, Some(0));
     assert!(!fs::metadata("/dev/null").expect("a device").is_file());
-    // The output may be the input itself: it is read before it is replaced.
-    assert_eq!(folder.run(&["words", "day.txt", "day.txt"]).status, Some(0));
-    assert_eq!(folder.read("day.txt"), day_words());
+    // A link that leads nowhere yet stays one too.
+    symlink("new", folder.file("dangling")).expect("a link");
+    assert_eq!(folder.run(&["words", "day.txt", "dangling"]).status, Some(0));
+    assert_eq!(folder.read("new"), day_words());
+    assert!(mode("dangling").file_type().is_symlink());
+    // What standard output is connected to keeps what it has.
+    folder.write("log", "older\n");
+    assert_eq!(
+        redirected(&folder, &["text", "day.txt", "/dev/stdout"], ">>log").status,
+        Some(0)
+    );
+    assert_eq!(folder.read("log"), format!("older\n{DAY}").into_bytes());
+}
+
+#[test]
+fn a_replaced_file_keeps_its_owner() {
+    const SOMEBODY: u32 = 4711;
+    let folder = folder_of_the_day();
+    folder.write("out", "older");
+    // Only root can give files away; for everybody else there is nothing to keep.
+    let owner = format!("{SOMEBODY}:{SOMEBODY}");
+    let given = Command::new("chown").arg(owner).arg(folder.file("out")).output();
+    if given.expect("the command chown").status.success() {
+        assert_eq!(folder.run(&["words", "day.txt", "out"]).status, Some(0));
+        let known = fs::metadata(folder.file("out")).expect("a file");
+        assert_eq!((known.uid(), known.gid()), (SOMEBODY, SOMEBODY));
+    }
+    assert_eq!(folder.run(&["words", "day.txt", "out"]).status, Some(0));
+    assert_eq!(folder.read("out"), day_words());
 }
 
 #[test]

@@ -225,6 +225,16 @@ fn numbers(text: &str) -> Vec<u64> {
     runs.filter_map(|run| run.parse().ok()).collect()
 }
 
+/// How many frames a text has if it is a request: the lines behind the names of its columns that are neither empty nor comments.
+fn frames(text: &str) -> usize {
+    let lines = text.lines().map(|line| line.trim_matches(|c| " \t,;\"".contains(c)));
+    let rows = lines
+        .skip_while(|line| !line.to_lowercase().contains("harvest"))
+        .skip(1);
+    let is_comment = |line: &str| line == "#" || line.starts_with("# ") || line.starts_with("#\t");
+    rows.filter(|line| !line.is_empty() && !is_comment(line)).count()
+}
+
 #[test]
 fn a_changed_text_is_another_request_or_a_fault_with_its_place() {
     check(400, (requests(), dresses(), changes()), |(request, dress, changes)| {
@@ -241,6 +251,7 @@ fn a_changed_text_is_another_request_or_a_fault_with_its_place() {
                 let text = ran.text();
                 let harvest = text.split("harvest\n").nth(1).unwrap_or_default();
                 prop_assert!(numbers(harvest).iter().all(|n| known.any(|k| k == *n)), "{:?}", text);
+                prop_assert_eq!(harvest.lines().count(), frames(&given), "no frame is passed over");
             }
             Some(2) => {
                 prop_assert!(ran.out.is_empty());

@@ -111,7 +111,7 @@ impl<'a> Killed<'a> {
     fn open_again(&mut self, harvest: u32, used: u32, ends: &mut Ends) {
         let shown = self.folder.run(&["shift", "show", "--csv", "--journal", "journal"]);
         assert_eq!(shown.status, Some(0), "{}", shown.err);
-        ends.torn += u32::from(shown.err.contains("dropped a torn last line"));
+        ends.torn += u32::from(shown.err.contains("left out a torn last line"));
         if shown.text() != self.rows {
             ends.written_unanswered += 1;
             self.enter(harvest, used);

@@ -9,6 +9,9 @@ use evidence::reference::logbook::Logbook;
 use evidence::reference::Reference;
 use rustix::fs::{flock, FlockOperation};
 use std::fs::{self, File};
+use std::io::Write;
+use std::os::unix::io::OwnedFd;
+use std::os::unix::net::UnixStream;
 use std::process::Stdio;
 use std::thread;
 use std::time::Duration;
@@ -92,6 +95,16 @@ fn a_rest_that_is_short_says_by_how_much() {
              Short: with nothing used in the 1 frame left, the end charge of 8 Wh is still missed by 2 Wh, so every budget is 0.\n"
         )
     );
+    let title = "Shift: 1 of 2 frames recorded, the rest short by 2 Wh";
+    assert!(folder.run(&CHART).text().contains(title));
+}
+
+#[test]
+fn a_picture_does_not_take_the_journals_place() {
+    let folder = folder_of_a_shift();
+    let before = folder.read("journal");
+    let ran = folder.run(&["shift", "chart", "journal", "--journal", "./journal"]);
+    assert_eq!((ran.status, folder.read("journal")), (Some(2), before), "{}", ran.err);
 }
 
 #[test]
@@ -230,11 +243,15 @@ fn a_frame_that_is_not_the_next_is_not_recorded() {
         assert_eq!(told(ran), (Some(2), String::new(), message));
         assert_eq!(folder.read("journal"), before);
     }
-    assert!(record("3").text().starts_with("Recorded frame 3. "));
+    for frame in ["3", "4", "5", "6"] {
+        assert!(record(frame).text().starts_with(&format!("Recorded frame {frame}. ")));
+    }
+    let after = record("6");
+    assert_eq!((after.status, after.text().as_str()), (Some(1), "refused 20 0\n"));
 }
 
 #[test]
-fn a_torn_last_line_is_dropped_with_a_notice() {
+fn a_torn_last_line_is_left_out_with_a_notice() {
     let folder = folder_of_a_shift();
     let whole = folder.read("journal");
     let kept = whole.len()
@@ -245,12 +262,12 @@ fn a_torn_last_line_is_dropped_with_a_notice() {
             .skip(1)
             .position(|&b| b == b'\n')
             .expect("three lines");
-    for length in kept..whole.len() {
+    for length in kept..whole.len() - 1 {
         for zeros in [0, 5] {
             let torn = [&whole[..length], &vec![0; zeros]].concat();
             folder.write("journal", &torn);
             let notice = if torn.len() > kept {
-                "journal:3:1: dropped a torn last line: its recording was never answered\n"
+                "journal:3:1: left out a torn last line: its recording was never answered\n"
             } else {
                 ""
             };
@@ -262,6 +279,26 @@ fn a_torn_last_line_is_dropped_with_a_notice() {
             assert_eq!(folder.read("journal"), whole);
         }
     }
+}
+
+#[test]
+fn a_last_line_that_lacks_only_its_end_counts() {
+    let folder = folder_of_a_shift();
+    assert_eq!(record(&folder, 0, 0).status, Some(0));
+    let whole = folder.read("journal");
+    let two = folder_of_a_shift().read("journal");
+    for unended in [two[..two.len() - 1].to_vec(), [&two[..two.len() - 1], &[0; 7]].concat()] {
+        folder.write("journal", &unended);
+        assert_eq!(told(folder.run(&SHOW)), done(SHOWN));
+        assert_eq!(folder.read("journal"), unended, "looking changes nothing");
+        assert_eq!(record(&folder, 0, 0).status, Some(0));
+        assert_eq!(folder.read("journal"), whole);
+    }
+    let first = whole.iter().position(|&b| b == b'\n').expect("a line");
+    folder.write("journal", &whole[..first]);
+    assert_eq!(told(folder.run(&SHOW)), done("frame,harvest,use,charge\n"));
+    assert_eq!(record(&folder, 1, 3).status, Some(0));
+    assert_eq!(calls(&folder).len(), 2);
 }
 
 /// Every command on the journal is refused at this line, and the journal stays as it is.
@@ -315,7 +352,8 @@ fn every_damage_is_refused_with_its_line() {
         (text.replace('\n', "\r\n"), 1),
         (format!("\u{feff}{text}"), 1),
         (text.trim_end().replace('\n', " "), 1),
-        (first.trim_end().to_string(), 1),
+        (first.trim_end().replace("harvest 6", "harvest 7"), 1),
+        (first[..first.len() - 2].to_string(), 1),
     ] {
         folder.write("journal", damaged);
         assert_damaged(&folder, line);
@@ -409,11 +447,84 @@ fn a_recording_that_cannot_be_written_leaves_the_journal_as_it_was() {
         assert_eq!(folder.read("journal"), before, "{limit} {count}");
     }
     folder.write("day.txt", DAY);
-    for (limit, count) in [("WRITES", "0"), ("WRITES", "5"), ("SYNCS", "0")] {
+    for (limit, count) in [("WRITES", "0"), ("WRITES", "5"), ("SYNCS", "0"), ("SYNCS", "1")] {
         let started = faulty(&["shift", "start", "day.txt", "--journal", "new"], limit, count);
         assert_eq!(started.2, "gomzhiva: new: No space left on device\n");
         assert_eq!(folder.names(), ["day.txt", "faults.so", "journal"]);
     }
+}
+
+#[test]
+fn a_recording_that_cannot_be_cut_back_says_so() {
+    let folder = folder_of_a_shift();
+    let mut command = folder.command(&["shift", "record", "1", "3", "--journal", "journal"]);
+    command
+        .env("LD_PRELOAD", folder.faults())
+        .env("SYNCS", "0")
+        .env("CUTS", "1");
+    let ran = Ran::from(command.stdin(Stdio::null()).output().expect("the program ends"));
+    let reason = "journal: Input/output error; the frame may be recorded all the same: `shift show` tells";
+    assert_eq!(told(ran), (Some(3), String::new(), format!("gomzhiva: {reason}\n")));
+    assert_eq!(folder.run(&SHOW).status, Some(0));
+}
+
+#[test]
+fn a_file_system_without_links_has_journals_too() {
+    let folder = Folder::new();
+    folder.write("day.txt", DAY);
+    let faults = folder.faults();
+    let start = || {
+        let mut command = folder.command(&["shift", "start", "day.txt", "--journal", "journal"]);
+        command.env("LD_PRELOAD", &faults).env("LINKS", "0").env("ERRNO", "1");
+        Ran::from(command.stdin(Stdio::null()).output().expect("the program ends"))
+    };
+    assert_eq!(start().status, Some(0));
+    assert_eq!(start().err, "gomzhiva: journal: File exists\n");
+    assert_eq!(folder.names(), ["day.txt", "faults.so", "journal"]);
+    assert_eq!(record(&folder, 1, 3).status, Some(0));
+}
+
+#[test]
+fn a_journal_that_was_moved_while_it_was_waited_for_is_not_written() {
+    let folder = folder_of_a_shift();
+    let moved = folder.read("journal");
+    let old = File::open(folder.file("journal")).expect("the journal");
+    flock(&old, FlockOperation::LockExclusive).expect("a lock");
+    let mut command = folder.command(&["shift", "record", "0", "0", "--journal", "journal"]);
+    let waiting = command
+        .stdin(Stdio::null())
+        .stdout(Stdio::piped())
+        .spawn()
+        .expect("the program starts");
+    thread::sleep(Duration::from_millis(100));
+    fs::rename(folder.file("journal"), folder.file("yesterday")).expect("a renaming");
+    assert_eq!(start(&folder, DAY).status, Some(0));
+    flock(&old, FlockOperation::Unlock).expect("no lock");
+    let answer = Ran::from(waiting.wait_with_output().expect("the program ends"));
+    assert!(answer.text().starts_with("Recorded frame 1. "), "{answer:?}");
+    assert_eq!((folder.read("yesterday"), calls(&folder).len()), (moved, 2));
+}
+
+#[test]
+fn nobody_waits_for_an_answer_that_is_not_read() {
+    let folder = folder_of_a_shift();
+    let (mut output, reader) = UnixStream::pair().expect("two ends");
+    output.set_nonblocking(true).expect("a stream");
+    while output.write(&[0; 4096]).is_ok() {}
+    output.set_nonblocking(false).expect("a stream");
+    let mut command = folder.command(&["shift", "record", "0", "0", "--journal", "journal"]);
+    let mut unread = command
+        .stdin(Stdio::null())
+        .stdout(OwnedFd::from(output))
+        .spawn()
+        .expect("the program starts");
+    while calls(&folder).len() < 4 {
+        thread::sleep(Duration::from_millis(5));
+    }
+    assert_eq!(folder.run(&SHOW).status, Some(0));
+    assert_eq!(unread.try_wait().expect("a child"), None, "its answer is not read yet");
+    drop(reader);
+    unread.wait().expect("the program ends");
 }
 
 #[test]

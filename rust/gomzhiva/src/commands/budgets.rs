@@ -3,9 +3,10 @@
 use crate::chart::{svg, Picture};
 use crate::cli::ReportArguments;
 use crate::failure::Failure;
-use crate::files::print;
+use crate::files::{print, Place};
 use crate::report::{column, frames, Table};
 use crate::request::Request;
+use crate::streams::tell;
 use energy::{Energy, Linked, Verdict};
 
 /// A request's budgets, planned or supplied, and what the proved tracer says of them.
@@ -14,6 +15,14 @@ pub struct Budgets<'a> {
     pub budgets: Vec<u32>,
     pub charges: Vec<i64>,
     pub verdict: Verdict,
+}
+
+/// What stands around the budgets, and the inputs that they were made of.
+pub struct Shown<'a> {
+    pub title: &'a str,
+    pub words: &'a str,
+    pub is_warning: bool,
+    pub inputs: &'a [&'a Place],
 }
 
 impl<'a> Budgets<'a> {
@@ -45,18 +54,27 @@ impl<'a> Budgets<'a> {
         self.charges.last().copied().unwrap_or_default()
     }
 
-    /// Shows table, CSV or picture as the arguments ask; the words close the table.
-    pub fn show(&self, report: &ReportArguments, title: &str, words: &str) -> Result<(), Failure> {
+    /// Shows table, CSV or picture as the arguments ask. The words close the table; a warning that they have is told on
+    /// standard error where they have no place.
+    pub fn show(&self, report: &ReportArguments, shown: &Shown<'_>) -> Result<(), Failure> {
+        let only_picture = report.draws_on_standard_output();
+        if only_picture && report.table.csv {
+            let message = "gomzhiva: --csv and --chart - cannot both be standard output";
+            return Err(Failure::Fault(message.into()));
+        }
         if let Some(place) = &report.chart {
-            place.write(svg(&self.picture(title)).as_bytes())?;
+            place.is_none_of(shown.inputs)?;
+            place.write(svg(&self.picture(shown.title)).as_bytes())?;
         }
-        if report.draws_on_standard_output() {
-            Ok(())
-        } else if report.csv {
-            print(&self.table(0).csv())
-        } else {
-            print(&(self.table(0).aligned() + words))
+        if report.table.csv {
+            print(&self.table(0).csv())?;
+        } else if !only_picture {
+            return print(&format!("{}\n{}\n", self.table(0).aligned(), shown.words));
         }
+        if shown.is_warning {
+            tell(format!("gomzhiva: {}", shown.words));
+        }
+        Ok(())
     }
 
     fn picture<'b>(&'b self, title: &'b str) -> Picture<'b> {

@@ -18,19 +18,27 @@ pub fn run(command: &Command) -> Result<(), Failure> {
         Command::Trace(arguments) => trace::run(arguments),
         Command::Grade { budgets } => print(&(worth(&read_budgets(budgets)?)? + "\n")),
         Command::Words { request, output } => words(request, output),
-        Command::Text { request, output } => output.output.write(request.read()?.request()?.text().as_bytes()),
+        Command::Text { request, output } => text(request, output),
         Command::Shift(command) => shift::run(command),
     }
 }
 
 fn needed(request: &RequestArguments) -> Result<(), Failure> {
-    let draft = request.read()?;
-    let needed = Linked.needed(draft.start()?, draft.end()?, &draft.harvest)?;
+    let ([start, end], harvest) = request.read()?.charges()?;
+    let needed = Linked.needed(start, end, &harvest)?;
     print(&format!("needed capacity {needed} Wh\n"))
 }
 
 fn words(request: &RequestArguments, output: &OutputArguments) -> Result<(), Failure> {
-    output.output.write(&request.read()?.request()?.word_file()?)
+    let file = request.read()?.request()?.word_file()?;
+    output.output.is_none_of(&[&request.request])?;
+    output.output.write(&file)
+}
+
+fn text(request: &RequestArguments, output: &OutputArguments) -> Result<(), Failure> {
+    let text = request.read()?.request()?.text();
+    output.output.is_none_of(&[&request.request])?;
+    output.output.write(text.as_bytes())
 }
 
 /// What budgets earn, in words.

@@ -1,6 +1,6 @@
 //! `plan`: the plan of a request.
 
-use super::budgets::Budgets;
+use super::budgets::{Budgets, Shown};
 use super::worth;
 use crate::cli::PlanArguments;
 use crate::failure::Failure;
@@ -18,8 +18,13 @@ pub fn run(arguments: &PlanArguments) -> Result<(), Failure> {
     let mut budgets = vec![0; request.harvest.len()];
     Linked.plan(request.figures, &request.harvest, &mut budgets)?;
     let plan = Budgets::trace(&request, budgets)?;
-    let title = format!("Plan of {}", arguments.request.request.input_name());
-    plan.show(&arguments.report, &title, &summary(&request, &plan)?)
+    let shown = Shown {
+        title: &format!("Plan of {}", arguments.request.request.input_name()),
+        words: &summary(&request, &plan)?,
+        is_warning: false,
+        inputs: &[&arguments.request.request],
+    };
+    plan.show(&arguments.report, &shown)
 }
 
 /// Prints document 01's listing, from the proved entry.
@@ -51,10 +56,10 @@ fn summary(request: &Request, plan: &Budgets<'_>) -> Result<String, Failure> {
     let budgets = &plan.budgets;
     let needed = Linked.needed(figures.start, figures.end, &request.harvest)?;
     Ok(format!(
-        "\n{}: {} Wh harvested, {} Wh budgeted (mean {}, most {}).\n\
+        "{}: {} Wh harvested, {} Wh budgeted (mean {}, most {}).\n\
          The charge goes from {} to {} Wh, and is at most {} Wh after a frame, of a capacity of {} Wh.\n\
          A capacity of {needed} Wh would serve every curve as well as unlimited storage.\n\
-         {}.\n",
+         {}.",
         counted(budgets.len(), "frame"),
         sum(&request.harvest),
         sum(budgets),

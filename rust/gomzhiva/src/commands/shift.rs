@@ -6,10 +6,10 @@ use crate::cli::{JournalArguments, OutputArguments, ShiftCommand};
 use crate::failure::Failure;
 use crate::files::print;
 use crate::journal::{Journal, Purpose, Running};
-use crate::report::{capitalised, column, counted, frames, mean, sum, Table};
+use crate::report::{capitalised, column, counted, ending, frames, mean, sum, Table};
 use crate::request::{Request, RequestArguments};
+use crate::streams::tell;
 use energy::{Energy, Figures, Linked, Refusal, Rest, Shift};
-use std::io::{self, Write};
 
 pub fn run(command: &ShiftCommand) -> Result<(), Failure> {
     match command {
@@ -20,9 +20,12 @@ pub fn run(command: &ShiftCommand) -> Result<(), Failure> {
             frame,
             journal,
         } => record(*harvest, *used, *frame, journal),
-        ShiftCommand::Plan { journal, csv } => plan(&look(journal)?, *csv),
-        ShiftCommand::Show { journal, csv } => show(&look(journal)?, *csv),
-        ShiftCommand::Chart { output, journal } => chart(&look(journal)?, output),
+        ShiftCommand::Plan { journal, table } => plan(&look(journal)?, table.csv),
+        ShiftCommand::Show { journal, table } => show(&look(journal)?, table.csv),
+        ShiftCommand::Chart { output, journal } => {
+            output.output.is_none_of(&[&journal.journal])?;
+            chart(&look(journal)?, output)
+        }
     }
 }
 
@@ -33,19 +36,25 @@ fn start(request: &RequestArguments, journal: &JournalArguments) -> Result<(), F
 
 fn record(harvest: u32, used: u32, frame: Option<u32>, journal: &JournalArguments) -> Result<(), Failure> {
     let mut journal = open(journal, Purpose::Record)?;
-    let next = journal.running.shift.recorded + 1;
-    if let Some(frame) = frame.filter(|&frame| frame != next) {
+    let Shift { frames, recorded, .. } = journal.running.shift;
+    let next = recorded + 1;
+    // After the last frame there is none to compare with, and the library refuses any recording.
+    if let Some(frame) = frame.filter(|&frame| frame != next && recorded < frames) {
         return Err(Failure::Fault(format!(
             "gomzhiva: --frame {frame}: the next frame is {next}; nothing is recorded"
         )));
     }
     journal.record(harvest, used)?;
-    answer(&format!("recorded frame {next}"), &journal.running.shift)
+    let shift = journal.running.shift;
+    // Others need not wait until the answer is read.
+    drop(journal);
+    answer(&format!("recorded frame {next}"), &shift)
 }
 
 /// Answers a call that is in the journal; where the answer cannot be printed, the failure says what is done all the same.
 fn answer(done: &str, shift: &Shift) -> Result<(), Failure> {
-    print(&format!("{}. {}\n", capitalised(done), standing(shift))).map_err(|failure| failure.after(done))
+    print(&format!("{}. {}\n", capitalised(done), standing(shift)))
+        .map_err(|failure| failure.with(&format!("{done} all the same")))
 }
 
 fn look(journal: &JournalArguments) -> Result<Running, Failure> {
@@ -56,16 +65,20 @@ fn look(journal: &JournalArguments) -> Result<Running, Failure> {
 fn open(journal: &JournalArguments, purpose: Purpose) -> Result<Journal, Failure> {
     let journal = Journal::open(&journal.journal, purpose)?;
     if let Some(notice) = journal.notice() {
-        // A notice that nobody can read changes nothing.
-        let _ = writeln!(io::stderr(), "{notice}");
+        tell(notice);
     }
     Ok(journal)
 }
 
 /// How a shift stands, in words.
 fn standing(shift: &Shift) -> String {
+    let finished = if shift.recorded == shift.frames {
+        format!(" Finished: {}.", ending(shift.charge.into(), shift.end))
+    } else {
+        String::new()
+    };
     format!(
-        "{} of {} recorded; charge {} Wh of a capacity of {} Wh; {} Wh harvested, {} Wh used, {} Wh lost.",
+        "{} of {} recorded; charge {} Wh of a capacity of {} Wh; {} Wh harvested, {} Wh used, {} Wh lost.{finished}",
         shift.recorded,
         counted(shift.frames as usize, "frame"),
         shift.charge,
@@ -96,14 +109,15 @@ fn plan(running: &Running, csv: bool) -> Result<(), Failure> {
     let request = rest_request(running);
     let traced = Budgets::trace(&request, budgets)?;
     let table = traced.table(running.shift.recorded);
-    if csv {
-        return print(&table.csv());
+    let words = rest_words(rest, running, &traced);
+    if !csv {
+        return print(&format!("{}\n{words}\n", table.aligned()));
     }
-    print(&format!(
-        "{}\n{}\n",
-        table.aligned(),
-        rest_words(rest, running, &traced)
-    ))
+    print(&table.csv())?;
+    if let Rest::Short { .. } = rest {
+        tell(format!("gomzhiva: {words}"));
+    }
+    Ok(())
 }
 
 /// What is left of a shift as a request: the present charge is its start charge.
@@ -139,20 +153,32 @@ fn rest_words(rest: Rest, running: &Running, traced: &Budgets<'_>) -> String {
     }
 }
 
+/// What a picture's title says of a rest that is short.
+fn short_by(rest: Rest) -> String {
+    match rest {
+        Rest::Planned => String::new(),
+        Rest::Short { missing } => format!(", the rest short by {missing} Wh"),
+    }
+}
+
 /// Draws what was recorded and, behind it, the plan of the rest with its needed capacity.
 fn chart(running: &Running, output: &OutputArguments) -> Result<(), Failure> {
     let rest = rest_request(running);
-    let (budgets, charges) = match running.plan_rest() {
-        Err(Refusal::AllRecorded) => (Vec::new(), Vec::new()),
+    let (budgets, charges, short) = match running.plan_rest() {
+        Err(Refusal::AllRecorded) => (Vec::new(), Vec::new(), String::new()),
         planned => {
-            let traced = Budgets::trace(&rest, planned?.1)?;
-            (traced.budgets, traced.charges)
+            let (planned, budgets) = planned?;
+            let traced = Budgets::trace(&rest, budgets)?;
+            (traced.budgets, traced.charges, short_by(planned))
         }
     };
     let harvest = [running.column(|r| r.harvest), rest.harvest].concat();
     let recorded = running.recorded.len();
     let picture = Picture {
-        title: &format!("Shift: {recorded} of {} recorded", counted(harvest.len(), "frame")),
+        title: &format!(
+            "Shift: {recorded} of {} recorded{short}",
+            counted(harvest.len(), "frame")
+        ),
         capacity: rest.figures.capacity,
         needed: Linked
             .needed(rest.figures.start, rest.figures.end, running.rest_harvest())

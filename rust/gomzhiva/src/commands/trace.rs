@@ -1,10 +1,11 @@
 //! `trace`: the charges that supplied budgets lead to, and the verdict.
 
-use super::budgets::Budgets;
+use super::budgets::{Budgets, Shown};
 use crate::cli::TraceArguments;
 use crate::failure::Failure;
+use crate::report::{counted, ending};
 use crate::request::read_budgets;
-use energy::Verdict;
+use energy::{Refusal, Verdict};
 
 pub fn run(arguments: &TraceArguments) -> Result<(), Failure> {
     if arguments.request.request.is_standard() && arguments.budgets.is_standard() {
@@ -13,22 +14,38 @@ pub fn run(arguments: &TraceArguments) -> Result<(), Failure> {
         ));
     }
     let request = arguments.request.read()?.request()?;
-    let traced = Budgets::trace(&request, read_budgets(&arguments.budgets)?)?;
-    let title = format!(
-        "{} traced with {}",
-        arguments.budgets.input_name(),
-        arguments.request.request.input_name()
+    let budgets = read_budgets(&arguments.budgets)?;
+    let lengths = format!(
+        "{} for {}",
+        counted(budgets.len(), "budget"),
+        counted(request.harvest.len(), "frame")
     );
-    traced.show(&arguments.report, &title, &format!("\n{}\n", verdict(&traced)))
+    let traced = Budgets::trace(&request, budgets).map_err(|failure| match failure.refusal() {
+        Some(Refusal::WrongLength) => failure.with(&lengths),
+        _ => failure,
+    })?;
+    let is_feasible = traced.verdict == Verdict::Feasible;
+    let title = format!(
+        "{} traced with {}{}",
+        arguments.budgets.input_name(),
+        arguments.request.request.input_name(),
+        if is_feasible { "" } else { ": not feasible" },
+    );
+    let shown = Shown {
+        title: &title,
+        words: &verdict(&traced),
+        is_warning: !is_feasible,
+        inputs: &[&arguments.request.request, &arguments.budgets],
+    };
+    traced.show(&arguments.report, &shown)
 }
 
 /// The verdict in words.
 fn verdict(traced: &Budgets<'_>) -> String {
-    let end = traced.request.figures.end;
-    let last = traced.last_charge();
+    let (last, end) = (traced.last_charge(), traced.request.figures.end);
     match traced.verdict {
-        Verdict::Feasible => format!("Feasible: the charge ends at {last} Wh, and {end} Wh were asked for."),
-        Verdict::EndTooLow => format!("Not feasible: the charge ends at {last} Wh, below the end charge of {end} Wh."),
+        Verdict::Feasible => format!("Feasible: {}.", ending(last, end)),
+        Verdict::EndTooLow => format!("Not feasible: {}.", ending(last, end)),
         Verdict::BelowZero { frame } => format!("Not feasible: the charge after frame {frame} is below zero."),
     }
 }

@@ -8,11 +8,11 @@ pub use call::Call;
 pub use running::Running;
 
 use crate::failure::Failure;
-use crate::files;
+use crate::files::{self, Place};
 use crate::request::{quoted, Fault, Request};
 use rustix::fs::{flock, FlockOperation};
-use seal::Seal;
-use std::fs::{File, OpenOptions};
+use seal::{written, Seal};
+use std::fs::{self, File, OpenOptions};
 use std::io::{self, Read, Seek, SeekFrom, Write};
 use std::path::{Path, PathBuf};
 
@@ -24,8 +24,10 @@ pub struct Journal {
     seal: Seal,
     /// The bytes of its whole lines.
     length: u64,
+    /// The last of these lacks nothing but its line end.
+    unended: bool,
     /// The number of a torn last line, which was never answered.
-    pub torn: Option<usize>,
+    torn: Option<usize>,
 }
 
 /// What a journal is opened for.
@@ -37,7 +39,8 @@ pub enum Purpose {
 
 impl Journal {
     /// Starts a shift in a new journal.
-    pub fn start(path: &Path, request: Request) -> Result<Running, Failure> {
+    pub fn start(place: &Place, request: Request) -> Result<Running, Failure> {
+        let path = file_of(place)?;
         let running = Running::start(request.clone())?;
         let (line, _) = Seal::default().close(&Call::Start(request).to_string());
         files::create(path, line.as_bytes()).map_err(|error| Failure::system(path.display(), &error))?;
@@ -45,58 +48,77 @@ impl Journal {
     }
 
     /// Opens and locks a journal, and runs its calls again.
-    pub fn open(path: &Path, purpose: Purpose) -> Result<Journal, Failure> {
+    pub fn open(place: &Place, purpose: Purpose) -> Result<Journal, Failure> {
+        let path = file_of(place)?;
         let (file, bytes) = lock_and_read(path, purpose).map_err(|error| Failure::system(path.display(), &error))?;
-        let mut lines = bytes.split_inclusive(|&b| b == b'\n');
-        let (running, seal, length) = first_line(path, lines.next().unwrap_or_default())?;
+        let mut lines = bytes.split_inclusive(|&b| b == b'\n').zip(1..);
+        let (first, _) = lines.next().unwrap_or_default();
+        let (running, seal) = first_line(path, first)?;
         let mut journal = Journal {
             file,
             path: path.to_path_buf(),
             running,
             seal,
-            length,
+            length: 0,
+            unended: false,
             torn: None,
         };
-        for (line, number) in lines.zip(2..) {
+        journal.keep(first);
+        for (line, number) in lines {
             journal.run_again(line, number)?;
         }
         Ok(journal)
     }
 
+    /// Counts a whole line.
+    fn keep(&mut self, line: &[u8]) {
+        self.length += written(line).len() as u64;
+        self.unended = !line.ends_with(b"\n");
+    }
+
     /// Runs the call of a line again.
     fn run_again(&mut self, line: &[u8], number: usize) -> Result<(), Failure> {
-        if !line.ends_with(b"\n") && self.seal.torn(line).map_or(false, Call::begins_recording) {
-            self.torn = Some(number);
-            return Ok(());
+        match self.seal.open(line) {
+            Some((call, seal)) => {
+                let accepted = match Call::parse(call) {
+                    Some(Call::Record { harvest, used }) => self.running.record(harvest, used).is_ok(),
+                    _ => false,
+                };
+                if !accepted {
+                    return Err(damaged(&self.path, number, "a recording that is accepted", line));
+                }
+                self.seal = seal;
+                self.keep(line);
+            }
+            None if self.is_torn(line) => self.torn = Some(number),
+            None => return Err(damaged(&self.path, number, "a whole line as it was written", line)),
         }
-        let opened = self.seal.open(line);
-        let (text, seal) = opened.ok_or_else(|| damaged(&self.path, number, "a whole line as it was written", line))?;
-        let accepted = match Call::parse(text) {
-            Some(Call::Record { harvest, used }) => self.running.record(harvest, used).is_ok(),
-            _ => false,
-        };
-        if !accepted {
-            return Err(damaged(&self.path, number, "a recording that is accepted", line));
-        }
-        self.seal = seal;
-        self.length += line.len() as u64;
         Ok(())
     }
 
-    /// Records a frame: the call is accepted, then written and synced, and only then the shift goes on. A refused call, or
-    /// one that cannot be written, leaves the journal as it was.
+    /// A recording whose writing was cut off.
+    fn is_torn(&self, line: &[u8]) -> bool {
+        !line.ends_with(b"\n") && self.seal.torn(line).map_or(false, Call::begins_recording)
+    }
+
+    /// Records a frame: the call is accepted, then written and synced, and only then the shift goes on. After a refused call,
+    /// or one that cannot be written, the whole lines are those that were.
     pub fn record(&mut self, harvest: u32, used: u32) -> Result<(), Failure> {
         let mut running = self.running.clone();
         running.record(harvest, used)?;
         let (line, seal) = self.seal.close(&Call::Record { harvest, used }.to_string());
-        if let Err(error) = self.append(line.as_bytes()) {
-            // Without room to write there may be none to restore; a torn line is then dropped when the journal is opened.
-            let _ = self.file.set_len(self.length).and_then(|()| self.file.sync_all());
-            return Err(Failure::system(self.path.display(), &error));
+        let ended = if self.unended { format!("\n{line}") } else { line };
+        if let Err(error) = self.append(ended.as_bytes()) {
+            let failure = Failure::system(self.path.display(), &error);
+            return Err(match self.file.set_len(self.length) {
+                Ok(()) => failure,
+                Err(_) => failure.with("the frame may be recorded all the same: `shift show` tells"),
+            });
         }
         self.running = running;
         self.seal = seal;
-        self.length += line.len() as u64;
+        self.length += ended.len() as u64;
+        self.unended = false;
         Ok(())
     }
 
@@ -113,20 +135,32 @@ impl Journal {
         let number = self.torn?;
         let name = self.path.display();
         Some(format!(
-            "{name}:{number}:1: dropped a torn last line: its recording was never answered"
+            "{name}:{number}:1: left out a torn last line: its recording was never answered"
         ))
     }
 }
 
+/// A journal is a file, since it is locked and looked at again.
+fn file_of(place: &Place) -> Result<&Path, Failure> {
+    let fault = || Failure::Fault("gomzhiva: --journal: the name of a file is expected, found '-'".into());
+    place.file().ok_or_else(fault)
+}
+
 fn lock_and_read(path: &Path, purpose: Purpose) -> io::Result<(File, Vec<u8>)> {
     let records = purpose == Purpose::Record;
-    let mut file = OpenOptions::new().read(true).write(records).open(path)?;
     let lock = if records {
         FlockOperation::LockExclusive
     } else {
         FlockOperation::LockShared
     };
-    flock(&file, lock)?;
+    let mut file = loop {
+        let file = OpenOptions::new().read(true).write(records).open(path)?;
+        flock(&file, lock)?;
+        // While it was waited for, the name may have been given to another file.
+        if files::identity(&file.metadata()?) == files::identity(&fs::metadata(path)?) {
+            break file;
+        }
+    };
     // No journal is longer than that: what is cut off here belongs to none.
     let mut bytes = Vec::new();
     (&mut file).take(files::READ_BYTES).read_to_end(&mut bytes)?;
@@ -134,15 +168,14 @@ fn lock_and_read(path: &Path, purpose: Purpose) -> io::Result<(File, Vec<u8>)> {
 }
 
 /// The shift that a journal's first line starts.
-fn first_line(path: &Path, line: &[u8]) -> Result<(Running, Seal, u64), Failure> {
+fn first_line(path: &Path, line: &[u8]) -> Result<(Running, Seal), Failure> {
     let opened = Seal::default()
         .open(line)
         .and_then(|(text, seal)| match Call::parse(text) {
             Some(Call::Start(request)) => Some((Running::start(request).ok()?, seal)),
             _ => None,
         });
-    let (running, seal) = opened.ok_or_else(|| damaged(path, 1, "the start of a shift, as a journal begins,", line))?;
-    Ok((running, seal, line.len() as u64))
+    opened.ok_or_else(|| damaged(path, 1, "the start of a shift, as a journal begins,", line))
 }
 
 /// The failure of a journal that is not as it was written; nothing of it is changed.

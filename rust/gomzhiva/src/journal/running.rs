@@ -30,9 +30,7 @@ impl Running {
 
     /// Records the next frame; a refusal leaves the shift as it was.
     pub fn record(&mut self, harvest: u32, used: u32) -> Result<(), Refusal> {
-        self.shift = Linked
-            .shift_record(self.shift, harvest, used)
-            .map_err(|not| not.refusal)?;
+        self.shift = Linked.shift_record(self.shift, harvest, used)?;
         self.recorded.push(Recorded {
             harvest,
             used,

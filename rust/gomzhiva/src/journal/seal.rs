@@ -1,5 +1,5 @@
 //! The lines of a journal: a call, then ` *` and the CRC-32 of everything in the file before it, so that a changed, lost or
-//! moved line is noticed. What stands behind the last line end was torn while it was written.
+//! moved line is noticed. What stands behind the last line end may be whole, torn while it was written, or damaged.
 
 use crc32fast::Hasher;
 
@@ -20,19 +20,22 @@ impl Seal {
         (line, Seal(hasher))
     }
 
-    /// The call of a whole line, and the seal after it; none if this line cannot stand here.
+    /// The call of a whole line, and the seal after it; none if this line cannot stand here. The line end may be missing, as
+    /// an editor or a crash leaves a last line.
     pub fn open<'a>(&self, line: &'a [u8]) -> Option<(&'a str, Seal)> {
-        let call = line.get(..line.len().checked_sub(CLOSING + 1)?)?;
+        let sealed = match line.strip_suffix(b"\n") {
+            Some(sealed) => sealed,
+            None => written(line),
+        };
+        let call = sealed.get(..sealed.len().checked_sub(CLOSING)?)?;
         let call = std::str::from_utf8(call).ok()?;
         let (expected, seal) = self.close(call);
-        (expected.as_bytes() == line).then_some((call, seal))
+        (&expected.as_bytes()[..expected.len() - 1] == sealed).then_some((call, seal))
     }
 
     /// The call, or its beginning, of a line that was not written whole; none if these bytes are no beginning of a line here.
-    /// A system that went down may have left zero bytes in place of the rest.
     pub fn torn<'a>(&self, tail: &'a [u8]) -> Option<&'a str> {
-        let length = tail.iter().rposition(|&b| b != 0).map_or(0, |last| last + 1);
-        let tail = std::str::from_utf8(&tail[..length]).ok()?;
+        let tail = std::str::from_utf8(written(tail)).ok()?;
         match tail.split_once('*') {
             None => Some(tail),
             Some((call, _)) => {
@@ -41,6 +44,12 @@ impl Seal {
             }
         }
     }
+}
+
+/// The bytes of a line that were written: a system that went down may have left zero bytes in place of the rest.
+pub fn written(line: &[u8]) -> &[u8] {
+    let length = line.iter().rposition(|&b| b != 0).map_or(0, |last| last + 1);
+    &line[..length]
 }
 
 #[cfg(test)]
@@ -63,7 +72,9 @@ mod tests {
     #[test]
     fn lines_open_where_they_were_closed() {
         for ((line, seal), call) in journal().iter().zip(CALLS) {
-            assert_eq!(seal.open(line.as_bytes()).map(|(call, _)| call), Some(call));
+            for line in [line.clone(), line.replace('\n', ""), line.replace('\n', "\0\0")] {
+                assert_eq!(seal.open(line.as_bytes()).map(|(call, _)| call), Some(call), "{line:?}");
+            }
         }
         let lines = journal();
         assert!(
@@ -76,9 +87,12 @@ mod tests {
     fn every_changed_byte_is_noticed() {
         for (line, seal) in journal() {
             for i in 0..line.len() {
-                for change in 1..=255 {
+                for byte in 1..=255 {
                     let mut changed = line.clone().into_bytes();
-                    changed[i] ^= change;
+                    if changed[i] == byte {
+                        continue;
+                    }
+                    changed[i] = byte;
                     assert!(seal.open(&changed).is_none(), "byte {i} of {line:?}");
                 }
             }

@@ -10,7 +10,7 @@ use crate::failure::Failure;
 use crate::files::{Place, MOST_BYTES};
 use clap::Args;
 use energy::{Energy, Figures, Linked, MAX_FILE_BYTES, MAX_FRAMES};
-use sheet::{BUDGET, CAPACITY, END, FIGURES, HARVEST, START};
+use sheet::{Sheet, BUDGET, CAPACITY, END, FIGURES, HARVEST, START};
 
 /// Where a request stands, and figures in place of its own.
 #[derive(Args, Debug)]
@@ -18,13 +18,13 @@ pub struct RequestArguments {
     /// The request: text, CSV or a word file; - is standard input
     pub request: Place,
     /// The capacity in Wh, in place of the request's
-    #[arg(long, value_name = "WH")]
+    #[arg(long, value_name = "WH", allow_negative_numbers = true)]
     pub capacity: Option<u32>,
     /// The start charge in Wh, in place of the request's
-    #[arg(long, value_name = "WH")]
+    #[arg(long, value_name = "WH", allow_negative_numbers = true)]
     pub start: Option<u32>,
     /// The end charge in Wh, in place of the request's
-    #[arg(long, value_name = "WH")]
+    #[arg(long, value_name = "WH", allow_negative_numbers = true)]
     pub end: Option<u32>,
 }
 
@@ -43,7 +43,8 @@ pub struct Draft {
     /// The word file itself, where the request is just what it holds.
     pub word_file: Option<Vec<u8>>,
     name: String,
-    end_line: usize,
+    /// The text that it was read from.
+    sheet: Sheet,
 }
 
 impl RequestArguments {
@@ -68,30 +69,30 @@ impl RequestArguments {
 }
 
 impl Draft {
-    fn figure(&self, which: usize) -> Result<u32, Failure> {
-        let name = FIGURES[which];
-        self.figures[which].ok_or_else(|| {
-            let expected = format!("'{name}' with its number before the table, or the option --{name},");
-            Fault::at_end(self.end_line, expected).of(&self.name)
-        })
+    /// These figures, or a fault that names those that are missing.
+    fn take<const N: usize>(self, which: [usize; N]) -> Result<([u32; N], Vec<u32>), Failure> {
+        let missing: Vec<&str> = which
+            .iter()
+            .filter(|&&which| self.figures[which].is_none())
+            .map(|&which| FIGURES[which])
+            .collect();
+        if let Some(first) = missing.first() {
+            let names = missing.join(", ");
+            let expected = format!("{names} (as lines before the table, or as options such as --{first} 5)");
+            return Err(self.sheet.lacks(expected).of(&self.name));
+        }
+        Ok((which.map(|which| self.figures[which].unwrap_or_default()), self.harvest))
     }
 
-    pub fn start(&self) -> Result<u32, Failure> {
-        self.figure(START)
-    }
-
-    pub fn end(&self) -> Result<u32, Failure> {
-        self.figure(END)
+    /// What the needed capacity depends on: start and end charge, and the harvests.
+    pub fn charges(self) -> Result<([u32; 2], Vec<u32>), Failure> {
+        self.take([START, END])
     }
 
     /// The whole request.
     pub fn request(self) -> Result<Request, Failure> {
-        let figures = Figures {
-            capacity: self.figure(CAPACITY)?,
-            start: self.start()?,
-            end: self.end()?,
-        };
-        let harvest = self.harvest;
+        let ([capacity, start, end], harvest) = self.take([CAPACITY, START, END])?;
+        let figures = Figures { capacity, start, end };
         Ok(Request { figures, harvest })
     }
 }
@@ -133,14 +134,17 @@ pub fn read_budgets(place: &Place) -> Result<Vec<u32>, Failure> {
     }
 }
 
-/// A word file has a control character that no text has: the third byte of its end word is 0.
+/// A word file has a byte that no text has: the third one of its end word is 0.
 fn is_word_file(bytes: &[u8]) -> bool {
-    bytes.iter().any(|&b| b < b' ' && !b"\t\n\r".contains(&b))
+    bytes.contains(&0)
 }
 
 fn from_words(bytes: Vec<u8>, name: String) -> Result<Draft, Failure> {
     let mut harvest = vec![0; MAX_FRAMES];
-    let read = Linked.read(&bytes, &mut harvest)?;
+    let read = Linked.read(&bytes, &mut harvest).map_err(|refusal| {
+        let why = format!("{name} has a byte 0 and so is no text (a spreadsheet is read as CSV in UTF-8)");
+        Failure::from(refusal).with(&why)
+    })?;
     harvest.truncate(read.frames as usize);
     let Figures { capacity, start, end } = read.figures;
     Ok(Draft {
@@ -148,7 +152,7 @@ fn from_words(bytes: Vec<u8>, name: String) -> Result<Draft, Failure> {
         harvest,
         word_file: Some(bytes),
         name,
-        end_line: 1,
+        sheet: Sheet::default(),
     })
 }
 
@@ -161,7 +165,7 @@ fn from_text(bytes: &[u8], name: String) -> Result<Draft, Failure> {
         harvest,
         word_file: None,
         name,
-        end_line: sheet.end_line,
+        sheet,
     })
 }
 

@@ -1,8 +1,8 @@
 //! The notation of a request as text: named figures, a line that names the columns, then a line for each frame.
 //!
-//! A further figure or column that a request may have is one more row of `FIGURES` or `COLUMNS`.
+//! A further figure or column that a request may have is one more row of `FIGURES` or `COLUMNS` here; `Request` takes it up.
 
-use super::cells::{count_lines, lines, plain, Cell, Line};
+use super::cells::{count_lines, lines, plain, Cell, Line, Separator};
 use super::fault::{quoted, Fault, END_OF_LINE};
 
 /// A figure that stands once in a request, by its name.
@@ -30,12 +30,13 @@ pub enum Kind {
     Skipped,
 }
 
-/// What a text says: each figure with its line, each list of its table, and where it ends.
+/// What a text says: each figure with its line, each list of its table, where the table begins, and where the text ends.
 #[derive(Debug, Default)]
 pub struct Sheet {
     figures: [Option<(u32, usize)>; FIGURES.len()],
     lists: [Option<Vec<u32>>; LISTS],
-    pub end_line: usize,
+    table: Option<Fault>,
+    end_line: usize,
 }
 
 impl Sheet {
@@ -51,6 +52,14 @@ impl Sheet {
             .take()
             .ok_or_else(|| Fault::at_end(self.end_line, expected()))
     }
+
+    /// The fault of a text without some of its figures, which are expected before the table.
+    pub fn lacks(self, expected: String) -> Fault {
+        match self.table {
+            Some(table) => Fault { expected, ..table },
+            None => Fault::at_end(self.end_line, expected),
+        }
+    }
 }
 
 fn column_name(list: usize) -> &'static str {
@@ -65,49 +74,99 @@ pub fn parse(text: &str) -> Result<Sheet, Fault> {
         end_line: count_lines(&text),
         ..Sheet::default()
     };
-    let mut columns = Vec::new();
-    let mut lines = lines(&text);
-    for line in lines.by_ref() {
-        match figure_of(&line) {
-            Some(which) => put_figure(&mut sheet, which, &line)?,
-            None => {
-                columns = open_table(&mut sheet, &line)?;
-                break;
-            }
+    let mut table: Option<(Separator, Vec<Kind>)> = None;
+    for line in lines(&text) {
+        closed(&line)?;
+        match &table {
+            Some((separator, columns)) => put_frame(&mut sheet, columns, &row(&line, *separator)?)?,
+            None if line.mark.is_some() => {}
+            None => match figure_of(&line) {
+                Some(which) => put_figure(&mut sheet, which, &Row::new(&line, line.words()))?,
+                None => {
+                    let separator = line.separator();
+                    let names = Row::new(&line, line.cells(separator));
+                    table = Some((separator, open_table(&mut sheet, &names)?));
+                }
+            },
         }
-    }
-    for line in lines {
-        put_frame(&mut sheet, &columns, &line)?;
     }
     Ok(sheet)
 }
 
-/// The figure that a line names first.
-fn figure_of(line: &Line<'_>) -> Option<usize> {
-    FIGURES
-        .iter()
-        .position(|name| line.cells[0].text.eq_ignore_ascii_case(name))
+/// The cells of a line, and where it stands and ends.
+struct Row<'a> {
+    line: usize,
+    end: usize,
+    cells: Vec<Cell<'a>>,
 }
 
-fn put_figure(sheet: &mut Sheet, which: usize, line: &Line<'_>) -> Result<(), Fault> {
+impl<'a> Row<'a> {
+    fn new(line: &Line<'a>, cells: Vec<Cell<'a>>) -> Row<'a> {
+        Row {
+            line: line.number,
+            end: line.end(),
+            cells,
+        }
+    }
+}
+
+/// The cells of a line with numbers. What may be a spreadsheet's `#N/A` is no comment here, so that no frame is passed over.
+fn row<'a>(line: &Line<'a>, separator: Separator) -> Result<Row<'a>, Fault> {
+    match line.mark {
+        None => Ok(Row::new(line, line.cells(separator))),
+        Some(mark) => Err(unlike(
+            &Row::new(line, vec![mark]),
+            0,
+            "a frame, or a comment with a blank behind its '#',",
+        )),
+    }
+}
+
+/// A line's double quotes come in pairs.
+fn closed(line: &Line<'_>) -> Result<(), Fault> {
+    if line.has_open_quote() {
+        return Err(unlike(&Row::new(line, Vec::new()), 0, "a closing double quote"));
+    }
+    Ok(())
+}
+
+/// The figure that a line names first.
+fn figure_of(line: &Line<'_>) -> Option<usize> {
+    let words = line.words();
+    let named = |name: &&str| {
+        words
+            .first()
+            .map_or(false, |first| first.text.eq_ignore_ascii_case(name))
+    };
+    FIGURES.iter().position(named)
+}
+
+fn put_figure(sheet: &mut Sheet, which: usize, line: &Row<'_>) -> Result<(), Fault> {
     if let Some((_, before)) = sheet.figures[which] {
         let expected = format!("'{}' once (it stands in line {before})", FIGURES[which]);
         return Err(unlike(line, 0, &expected));
     }
-    sheet.figures[which] = Some((number(line, 1)?, line.number));
+    sheet.figures[which] = Some((number(line, 1)?, line.line));
     ends(line, 2)
 }
 
+/// The column that a cell names.
+fn column_of(cell: &Cell<'_>) -> Option<usize> {
+    COLUMNS
+        .iter()
+        .position(|(name, _)| cell.text.eq_ignore_ascii_case(name))
+}
+
 /// The columns that a line names, each once; their lists are there from now on.
-fn open_table(sheet: &mut Sheet, line: &Line<'_>) -> Result<Vec<Kind>, Fault> {
+fn open_table(sheet: &mut Sheet, line: &Row<'_>) -> Result<Vec<Kind>, Fault> {
     let mut places = Vec::new();
     for (i, cell) in line.cells.iter().enumerate() {
-        let named = |(name, _): &(&str, Kind)| cell.text.eq_ignore_ascii_case(name);
-        match COLUMNS.iter().position(named) {
+        match column_of(cell) {
             Some(place) if !places.contains(&place) => places.push(place),
             _ => return Err(unlike(line, i, &expected_name(i == 0, &places))),
         }
     }
+    sheet.table = Some(unlike(line, 0, ""));
     let columns: Vec<Kind> = places.into_iter().map(|place| COLUMNS[place].1).collect();
     for column in &columns {
         if let Kind::List(list) = column {
@@ -130,7 +189,7 @@ fn expected_name(begins: bool, named: &[usize]) -> String {
 }
 
 /// Puts a frame's cells into the lists of their columns.
-fn put_frame(sheet: &mut Sheet, columns: &[Kind], line: &Line<'_>) -> Result<(), Fault> {
+fn put_frame(sheet: &mut Sheet, columns: &[Kind], line: &Row<'_>) -> Result<(), Fault> {
     for (i, column) in columns.iter().enumerate() {
         if let Kind::List(list) = column {
             let value = number(line, i)?;
@@ -140,22 +199,28 @@ fn put_frame(sheet: &mut Sheet, columns: &[Kind], line: &Line<'_>) -> Result<(),
     ends(line, columns.len())
 }
 
-/// Reads bare numbers, however many stand in a line; none where the text does not begin with a number.
+/// Reads bare numbers parted by blanks, however many stand in a line; none where the text is empty or begins with a name.
 pub fn bare_numbers(text: &str) -> Result<Option<Vec<u32>>, Fault> {
     let mut list = Vec::new();
     for line in lines(&plain(text)) {
-        if list.is_empty() && !line.cells[0].text.starts_with(|c: char| c.is_ascii_digit()) {
-            return Ok(None);
-        }
-        for i in 0..line.cells.len() {
-            list.push(number(&line, i)?);
+        let is_first = list.is_empty();
+        let named = figure_of(&line).is_some() || line.words().first().map_or(false, |cell| column_of(cell).is_some());
+        match line.mark {
+            Some(_) if is_first => {}
+            None if is_first && named => return Ok(None),
+            _ => {
+                let line = row(&line, Separator::Blanks)?;
+                for i in 0..line.cells.len() {
+                    list.push(number(&line, i)?);
+                }
+            }
         }
     }
     Ok((!list.is_empty()).then_some(list))
 }
 
 /// The whole number in a line's cell, digits alone.
-fn number(line: &Line<'_>, i: usize) -> Result<u32, Fault> {
+fn number(line: &Row<'_>, i: usize) -> Result<u32, Fault> {
     let text = line.cells.get(i).map_or("", |cell| cell.text);
     let digits = !text.is_empty() && text.bytes().all(|b| b.is_ascii_digit());
     let value = if digits { text.parse().ok() } else { None };
@@ -163,7 +228,7 @@ fn number(line: &Line<'_>, i: usize) -> Result<u32, Fault> {
 }
 
 /// A line has no more cells than these.
-fn ends(line: &Line<'_>, cells: usize) -> Result<(), Fault> {
+fn ends(line: &Row<'_>, cells: usize) -> Result<(), Fault> {
     match line.cells.get(cells) {
         None => Ok(()),
         Some(_) => Err(unlike(line, cells, END_OF_LINE)),
@@ -171,14 +236,14 @@ fn ends(line: &Line<'_>, cells: usize) -> Result<(), Fault> {
 }
 
 /// The fault of a line's cell.
-fn unlike(line: &Line<'_>, i: usize, expected: &str) -> Fault {
+fn unlike(line: &Row<'_>, i: usize, expected: &str) -> Fault {
     let (column, found) = match line.cells.get(i) {
         Some(Cell { column, text: "" }) => (*column, "nothing".to_string()),
         Some(Cell { column, text }) => (*column, quoted(text)),
         None => (line.end, END_OF_LINE.to_string()),
     };
     Fault {
-        line: line.number,
+        line: line.line,
         column,
         expected: expected.to_string(),
         found,
@@ -218,6 +283,7 @@ mod tests {
             assert_eq!(said(text), day, "{text:?}");
         }
         assert_eq!(said("harvest\n"), (None, None, None, vec![]));
+        assert_eq!(said("#capacity 7\ntime\tharvest\n\"6 h\"\t6\n# noon\n").3, [6]);
     }
 
     #[test]
@@ -244,6 +310,31 @@ mod tests {
         );
         assert_eq!(fault("harvest,budget\n,3"), format!("2:1: {number} nothing"));
         assert_eq!(fault("harvest\n6\nend 2"), format!("3:1: {number} 'end'"));
+        assert_eq!(
+            fault("capacity 5,000"),
+            "1:12: the end of the line is expected, found '000'"
+        );
+        // The first line of a table parts the cells of all its lines.
+        assert_eq!(fault("harvest;time\n6,5;"), format!("2:1: {number} '6,5'"));
+        assert_eq!(fault("harvest,time\n1 000,"), format!("2:1: {number} '1 000'"));
+        assert_eq!(fault("harvest\n1,000"), format!("2:1: {number} '1,000'"));
+        assert_eq!(
+            fault("time;harvest\n12,30;"),
+            format!("2:7: {number} the end of the line")
+        );
+        assert_eq!(
+            fault("time\tharvest\tuse\n06:00\t\t5"),
+            format!("2:7: {number} nothing")
+        );
+        // A spreadsheet's error is no comment.
+        let frame = "a frame, or a comment with a blank behind its '#', is expected, found";
+        assert_eq!(fault("harvest,time\n6,6 h\n#N/A,7 h\n"), format!("3:1: {frame} '#N/A'"));
+        assert_eq!(fault("time,harvest\n7 h,#N/A\n"), format!("2:5: {number} '#N/A'"));
+        assert_eq!(fault("harvest\n6\n###\n"), format!("3:1: {frame} '###'"));
+        assert_eq!(
+            fault("time,harvest\n\"06:00,6\n"),
+            "2:9: a closing double quote is expected, found the end of the line"
+        );
         let names = "a figure (capacity, start, end) or a column (harvest, budget, frame, time, charge, use)";
         assert_eq!(fault("harvst\n6"), format!("1:1: {names} is expected, found 'harvst'"));
         assert_eq!(fault("5\n6"), format!("1:1: {names} is expected, found '5'"));
@@ -268,12 +359,16 @@ mod tests {
 
     #[test]
     fn bare_lists() {
-        assert_eq!(bare_numbers("4 4 4\n# none\n4,2,2"), Ok(Some(vec![4, 4, 4, 4, 2, 2])));
-        assert_eq!(bare_numbers("budget\n4"), Ok(None));
-        assert_eq!(bare_numbers(" # none"), Ok(None));
         assert_eq!(
-            bare_numbers("4\n4 x").unwrap_err().to_string().split(" is").next(),
-            Some("2:3: a whole number up to 4294967295")
+            bare_numbers("#today\n4 4\t4\n# none\n4  2 2"),
+            Ok(Some(vec![4, 4, 4, 4, 2, 2]))
         );
+        for text in ["budget\n4", "Budget,time\n4", "capacity 5", " # none", ""] {
+            assert_eq!(bare_numbers(text), Ok(None), "{text:?}");
+        }
+        for (text, place) in [("4\n4 x", "2:3"), ("-4", "1:1"), ("1,000", "1:1"), ("4\n#N/A", "2:1")] {
+            let fault = bare_numbers(text).unwrap_err();
+            assert_eq!(format!("{}:{}", fault.line, fault.column), place, "{text:?}");
+        }
     }
 }

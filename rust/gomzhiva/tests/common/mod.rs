@@ -47,8 +47,19 @@ pub fn column(list: &[u32]) -> String {
 /// How a shift stands, in the words of its answers.
 pub fn standing(shift: &Shift) -> String {
     let frames = if shift.frames == 1 { "frame" } else { "frames" };
+    let finished = if shift.recorded < shift.frames {
+        String::new()
+    } else if shift.charge < shift.end {
+        let below = format!("below the end charge of {} Wh", shift.end);
+        format!(" Finished: the charge ends at {} Wh, {below}.", shift.charge)
+    } else {
+        format!(
+            " Finished: the charge ends at {} Wh, and {} Wh were asked for.",
+            shift.charge, shift.end
+        )
+    };
     format!(
-        "{} of {} {frames} recorded; charge {} Wh of a capacity of {} Wh; {} Wh harvested, {} Wh used, {} Wh lost.\n",
+        "{} of {} {frames} recorded; charge {} Wh of a capacity of {} Wh; {} Wh harvested, {} Wh used, {} Wh lost.{finished}\n",
         shift.recorded, shift.frames, shift.charge, shift.capacity, shift.harvested, shift.used, shift.lost
     )
 }
