@@ -41,7 +41,7 @@ Example:
 pub enum Command {
     /// Print the plan of a request: the budget of each frame and the charge after it
     Plan(PlanArguments),
-    /// Print the least capacity that serves every curve as unlimited storage would
+    /// Print the least capacity that serves every curve as unlimited storage would, whatever the request's capacity
     #[command(after_help = "Example:\n  gomzhiva needed examples/day.txt")]
     Needed {
         #[command(flatten)]

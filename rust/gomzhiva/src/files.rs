@@ -7,6 +7,7 @@ use rustix::process::{Gid, Uid};
 use std::ffi::OsString;
 use std::fs::{self, File, Metadata, OpenOptions};
 use std::io::{self, Read, Write};
+use std::iter::successors;
 use std::os::unix::fs::MetadataExt;
 use std::path::{Path, PathBuf};
 use std::process;
@@ -123,13 +124,12 @@ fn replace(path: &Path, bytes: &[u8]) -> io::Result<()> {
     put(&linked(path), bytes, known, |new, path| fs::rename(new, path))?.sync_all()
 }
 
-/// The file that a symbolic link leads to, whether or not it is there.
+/// The file that symbolic links lead to, as many of them as the system follows, whether or not it is there.
 fn linked(path: &Path) -> PathBuf {
-    let mut path = path.to_path_buf();
-    while let Ok(target) = fs::read_link(&path) {
-        path = folder_of(&path).join(target);
-    }
-    path
+    const MOST_LINKS: usize = 40;
+    let follow = |path: &PathBuf| Some(folder_of(path).join(fs::read_link(path).ok()?));
+    let links = successors(Some(path.to_path_buf()), follow);
+    links.take(MOST_LINKS + 1).last().unwrap_or_default()
 }
 
 fn folder_of(path: &Path) -> &Path {
