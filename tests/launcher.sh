@@ -18,7 +18,8 @@ step() {
 step tools/install install
 step kit/rt prove
 step rust/cargo build
-# the stand-in for cargo makes the program
+# the stand-in for cargo makes the program, unless it is to go elsewhere
+printf '! grep -qx elsewhere "%s/fails" || exit 0\n' "$folder" >>"$folder/rust/cargo"
 printf 'mkdir -p "$CARGO_TARGET_DIR/release"\nprintf "#!/bin/sh\\necho ran \\"\\$@\\"\\ncat\\n" >"$CARGO_TARGET_DIR/release/gomzhiva"\nchmod +x "$CARGO_TARGET_DIR/release/gomzhiva"\n! grep -qx build "%s/fails"\n' "$folder" >>"$folder/rust/cargo"
 
 # run FAILING: the program with that step failing; what it printed, its status, and the steps that ran
@@ -35,15 +36,24 @@ older() { touch -d '1 hour ago' "$folder/target/gomzhiva.built"; }
 check 'a failed installation' ' status 3: install' "$(run install)"
 check 'a failed proof' ' status 3: install prove' "$(run prove)"
 check 'a failed build' ' status 3: install prove build' "$(run build)"
+check 'a program that went elsewhere' ' status 3: install prove build' "$(run elsewhere)"
 check 'nothing failed: the input is the program'\''s' $'ran plan -\ninput status 0: install prove build' "$(run none)"
 check 'it is built' $'ran plan -\ninput status 0: ' "$(run prove)"
 older
 check 'sources are newer and the proof fails: no old program is run' ' status 3: install prove' "$(run prove)"
 check 'and not at the next call either' ' status 3: install prove' "$(run prove)"
+older
+check 'a program that went elsewhere: no old one is run' ' status 3: install prove build' "$(run elsewhere)"
 check 'it is built again' $'ran plan -\ninput status 0: install prove build' "$(run none)"
 touch -d '1 hour' "$folder"/rust/README.md "$folder"/rust/gomzhiva/tests/a.rs
 check 'documents and tests are no sources' $'ran plan -\ninput status 0: ' "$(run prove)"
 touch -d '1 hour' "$folder/crates/model"
 check 'a source that came or went' ' status 3: install prove' "$(run prove)"
 
-finish 10
+check 'and then the build' $'ran plan -\ninput status 0: install prove build' "$(touch -d '1 hour ago' "$folder/crates/model"; run none)"
+mv "$folder/include" "$folder/gone"
+check 'sources that cannot be looked at' ' status 3: install prove' "$(run prove)"
+rm "$folder/target/gomzhiva.lock" && mkdir "$folder/target/gomzhiva.lock"
+check 'a lock that cannot be had' ' status 3: ' "$(run none)"
+
+finish 14
