@@ -7,15 +7,22 @@ pub struct Cell<'a> {
     pub text: &'a str,
 }
 
+/// Some cells of a line, and where it stands and ends.
+#[derive(Debug)]
+pub struct Row<'a> {
+    pub line: usize,
+    pub end: usize,
+    pub cells: Vec<Cell<'a>>,
+}
+
 /// A line's place in its text, and what stands in it.
 #[derive(Debug)]
 pub struct Line<'a> {
-    pub number: usize,
-    /// Without the comment, and the blanks before that.
+    number: usize,
+    /// What stands before the comment.
     content: &'a str,
-    /// The first word of a comment without a blank behind its `#`, where the line has nothing else: `#noon`, or the `#N/A` of
-    /// a spreadsheet.
-    pub mark: Option<Cell<'a>>,
+    /// The first word of a comment without a blank behind its `#`: `#noon`, or the `#N/A` of a spreadsheet.
+    doubtful: Option<Cell<'a>>,
 }
 
 /// What parts the cells of a table.
@@ -31,10 +38,9 @@ pub fn plain(text: &str) -> String {
     text.replace("\r\n", "\n").replace('\r', "\n")
 }
 
-/// The lines of a plain text that have a cell, or a mark that may be one.
+/// The lines of a plain text.
 pub fn lines(plain: &str) -> impl Iterator<Item = Line<'_>> {
-    let lines = plain.split('\n').zip(1..).map(|(line, number)| Line::new(number, line));
-    lines.filter(|line| line.mark.is_some() || !line.words().is_empty())
+    plain.split('\n').zip(1..).map(|(line, number)| Line::new(number, line))
 }
 
 /// How many lines a plain text has; a text without any has one, which is empty.
@@ -44,22 +50,30 @@ pub fn count_lines(plain: &str) -> usize {
 
 impl<'a> Line<'a> {
     fn new(number: usize, line: &'a str) -> Line<'a> {
-        let comment = comment_in(line);
-        let content = line[..comment].trim_end_matches(is_blank);
-        let mark = || {
-            let mark = cells(line, separates).into_iter().find(|cell| !cell.text.is_empty());
-            mark.filter(|mark| mark.text.len() > 1)
+        let (content, comment) = line.split_at(comment_in(line));
+        let is_doubtful = comment.chars().nth(1).map_or(false, |c| !is_blank(c));
+        let word = Cell {
+            column: content.chars().count() + 1,
+            text: comment.split(separates).next().unwrap_or_default(),
         };
         Line {
             number,
             content,
-            mark: if content.is_empty() { mark() } else { None },
+            doubtful: is_doubtful.then_some(word),
         }
     }
 
-    /// The column behind its last cell.
-    pub fn end(&self) -> usize {
-        self.content.chars().count() + 1
+    fn row(&self, cells: Vec<Cell<'a>>) -> Row<'a> {
+        Row {
+            line: self.number,
+            end: self.content.trim_end_matches(is_blank).chars().count() + 1,
+            cells,
+        }
+    }
+
+    /// Nothing stands in it but blanks and a comment.
+    pub fn is_blank(&self) -> bool {
+        self.content.chars().all(is_blank)
     }
 
     /// A double quote that is not closed.
@@ -67,31 +81,55 @@ impl<'a> Line<'a> {
         self.content.matches('"').count() % 2 == 1
     }
 
-    /// The cells between separators of any kind.
-    pub fn words(&self) -> Vec<Cell<'a>> {
-        filled(cells(self.content, separates))
+    /// The cells between separators of any kind, however many.
+    pub fn words(&self) -> Row<'a> {
+        self.row(filled(pieces(self.content, separates)))
     }
 
     /// What parts the cells of a table with this line of names: semicolons if it has any, else commas, else tabs, else blanks.
     pub fn separator(&self) -> Separator {
-        let has = |&separator: &char| self.content.contains(unquoted(|c| c == separator));
+        let has = |&separator: &char| self.content.trim_end().contains(unquoted(|c| c == separator));
         [';', ',', '\t']
             .into_iter()
             .find(has)
             .map_or(Separator::Blanks, Separator::Character)
     }
 
-    /// The cells of a table's line. Between two separators that are characters there is one, if an empty one, but for those
-    /// at the end of the line.
-    pub fn cells(&self, separator: Separator) -> Vec<Cell<'a>> {
-        let mut cells = match separator {
-            Separator::Character(separator) => cells(self.content, |c| c == separator),
-            Separator::Blanks => filled(cells(self.content, is_blank)),
-        };
-        while cells.last().map_or(false, |last| last.text.is_empty()) {
-            cells.pop();
+    /// The cells of a table's line; between two characters that part cells there is one, if an empty one.
+    pub fn cells(&self, separator: Separator) -> Row<'a> {
+        let content = self.content.trim_end_matches(is_blank);
+        self.row(match separator {
+            Separator::Character(separator) => pieces(content, |c| c == separator).into_iter().map(bare).collect(),
+            Separator::Blanks => filled(pieces(content, is_blank)),
+        })
+    }
+
+    /// Characters that part cells, and nothing between them.
+    pub fn is_empty_row(&self, separator: Separator) -> bool {
+        match separator {
+            Separator::Character(separator) => {
+                let empty = self.content.chars().all(|c| is_blank(c) || c == separator);
+                empty && self.content.contains(separator)
+            }
+            Separator::Blanks => false,
         }
-        cells
+    }
+
+    /// A comment that may be meant as a number.
+    pub fn doubtful(&self) -> Option<Row<'a>> {
+        self.doubtful.map(|word| self.row(vec![word]))
+    }
+
+    /// A comment that may be meant as a cell: it stands where one begins.
+    pub fn doubtful_cell(&self, separator: Separator) -> Option<Row<'a>> {
+        let begins_cell = match separator {
+            Separator::Blanks => self.is_blank(),
+            Separator::Character(separator) => {
+                let before = self.content.trim_end_matches(|c| is_blank(c) && c != separator);
+                before.is_empty() || before.ends_with(separator)
+            }
+        };
+        self.doubtful().filter(|_| begins_cell)
     }
 }
 
@@ -107,23 +145,32 @@ fn comment_in(line: &str) -> usize {
     begins.unwrap_or(line.len())
 }
 
-/// The cells between separators outside of double quotes; between two separators there is an empty one.
-fn cells(line: &str, separates: impl Fn(char) -> bool) -> Vec<Cell<'_>> {
-    let mut next = 1;
-    let cell = |piece| {
-        let column = next + str::chars(piece).take_while(|&c| is_blank(c)).count();
-        next += piece.chars().count() + 1;
-        Cell {
-            column,
-            text: bare(piece),
-        }
-    };
-    line.split(unquoted(separates)).map(cell).collect()
+/// What stands between separators outside of double quotes, as it stands there.
+fn pieces(line: &str, separates: impl Fn(char) -> bool) -> Vec<Cell<'_>> {
+    let mut pieces = Vec::new();
+    let mut column = 1;
+    for text in line.split(unquoted(separates)) {
+        pieces.push(Cell { column, text });
+        column += text.chars().count() + 1;
+    }
+    pieces
 }
 
-fn filled(mut cells: Vec<Cell<'_>>) -> Vec<Cell<'_>> {
-    cells.retain(|cell| !cell.text.is_empty());
-    cells
+/// The cells of those pieces that have anything, if only two quotes.
+fn filled(pieces: Vec<Cell<'_>>) -> Vec<Cell<'_>> {
+    let filled = pieces.into_iter().filter(|piece| !piece.text.is_empty());
+    filled.map(bare).collect()
+}
+
+/// A piece without the blanks around it, and the double quotes around its text.
+fn bare(piece: Cell<'_>) -> Cell<'_> {
+    let blanks = piece.text.chars().take_while(|&c| is_blank(c)).count();
+    let text = piece.text.trim_matches(is_blank);
+    let inner = text.strip_prefix('"').and_then(|text| text.strip_suffix('"'));
+    Cell {
+        column: piece.column + blanks,
+        text: inner.map_or(text, |inner| inner.trim_matches(is_blank)),
+    }
 }
 
 /// Looks at a line's characters one after the other: such a one, outside of double quotes.
@@ -133,13 +180,6 @@ fn unquoted(is_such: impl Fn(char) -> bool) -> impl FnMut(char) -> bool {
         quoted ^= c == '"';
         !quoted && is_such(c)
     }
-}
-
-/// A cell's text without the blanks and the double quotes around it.
-fn bare(piece: &str) -> &str {
-    let text = piece.trim_matches(is_blank);
-    let inner = text.strip_prefix('"').and_then(|text| text.strip_suffix('"'));
-    inner.map_or(text, |inner| inner.trim_matches(is_blank))
 }
 
 fn is_blank(c: char) -> bool {
@@ -155,8 +195,8 @@ mod tests {
     use super::*;
     use Separator::{Blanks, Character};
 
-    fn texts<'a>(cells: &[Cell<'a>]) -> Vec<&'a str> {
-        cells.iter().map(|cell| cell.text).collect()
+    fn texts<'a>(row: &Row<'a>) -> Vec<&'a str> {
+        row.cells.iter().map(|cell| cell.text).collect()
     }
 
     /// The cells of a table's line.
@@ -172,12 +212,12 @@ mod tests {
             "capacity,5",
             "\"capacity\" ; 5;;",
             "capacity 5,,",
-            "capacity 5 # Wh",
+            "capacity 5 #Wh",
         ] {
             assert_eq!(texts(&Line::new(1, line).words()), ["capacity", "5"], "{line:?}");
         }
         assert_eq!(texts(&Line::new(1, "capacity 5,000").words()), ["capacity", "5", "000"]);
-        assert!(Line::new(1, ",; \t").words().is_empty());
+        assert!(Line::new(1, ",; \t").words().cells.is_empty());
     }
 
     #[test]
@@ -187,7 +227,7 @@ mod tests {
             ("time,harvest", Character(',')),
             ("time, harvest;", Character(';')),
             ("time\tharvest", Character('\t')),
-            ("time harvest", Blanks),
+            ("time harvest\t", Blanks),
             ("\"time, day\" harvest # a; b", Blanks),
             ("harvest", Blanks),
         ] {
@@ -199,13 +239,13 @@ mod tests {
     fn cells_hold_what_does_not_part_them() {
         assert_eq!(parted("2026-06-21 06:00,6", Character(',')), ["2026-06-21 06:00", "6"]);
         assert_eq!(parted("1,5;6", Character(';')), ["1,5", "6"]);
-        assert_eq!(parted("1,5;", Character(';')), ["1,5"]);
+        assert_eq!(parted("1,5;", Character(';')), ["1,5", ""]);
         assert_eq!(parted("12,30", Character(';')), ["12,30"]);
-        assert_eq!(parted("06:00\t\t5", Character('\t')), ["06:00", "", "5"]);
-        assert_eq!(parted("  , 7 ,\"\",", Character(',')), ["", "7"]);
-        assert_eq!(parted(" 06:00 \t 6", Blanks), ["06:00", "6"]);
+        assert_eq!(parted("06:00\t\t5\t", Character('\t')), ["06:00", "", "5"]);
+        assert_eq!(parted("  , 7 ,\"\",", Character(',')), ["", "7", "", ""]);
+        assert_eq!(parted(" 06:00 \t \"\" 6", Blanks), ["06:00", "", "6"]);
         assert_eq!(parted("1,5", Blanks), ["1,5"]);
-        assert!(parted(",,,", Character(',')).is_empty());
+        assert!(parted(" \t ", Blanks).is_empty());
     }
 
     #[test]
@@ -224,30 +264,53 @@ mod tests {
         assert_eq!(parted("6 #noon", Blanks), ["6"]);
         assert_eq!(parted("06:00,#N/A", Character(',')), ["06:00", "#N/A"]);
         assert_eq!(parted("lot#3,6 # noon", Character(',')), ["lot#3", "6"]);
-        let mark = |line| Line::new(1, line).mark.map(|cell| (cell.column, cell.text));
-        assert_eq!(mark("#N/A,06:15"), Some((1, "#N/A")));
-        assert_eq!(mark("  ###"), Some((3, "###")));
-        for line in ["# noon", "#", "6 #N/A", "", "6"] {
-            assert_eq!(mark(line), None, "{line:?}");
+    }
+
+    #[test]
+    fn a_comment_where_a_cell_begins_is_doubtful_without_a_blank() {
+        let doubtful = |line, separator| {
+            let row = Line::new(1, line).doubtful_cell(separator);
+            row.map(|row| (row.cells[0].column, row.cells[0].text))
+        };
+        for (line, separator, word) in [
+            ("#N/A,06:15", Character(','), (1, "#N/A")),
+            ("#,06:15", Character(','), (1, "#")),
+            ("06:00, #N/A,3", Character(','), (8, "#N/A")),
+            (", #N/A", Character(','), (3, "#N/A")),
+            ("06:00\t#N/A", Character('\t'), (7, "#N/A")),
+            ("  ###", Blanks, (3, "###")),
+        ] {
+            assert_eq!(doubtful(line, separator), Some(word), "{line:?}");
         }
+        for (line, separator) in [
+            ("# noon", Blanks),
+            ("#", Blanks),
+            ("6 #N/A", Blanks),
+            ("06:00,6 #noon", Character(',')),
+            ("06:00,6, # noon", Character(',')),
+            ("06:00\t6 #noon", Character('\t')),
+        ] {
+            assert_eq!(doubtful(line, separator), None, "{line:?}");
+        }
+        assert!(Line::new(1, "4\t#N/A\t3").doubtful().is_some());
     }
 
     #[test]
     fn columns_count_characters() {
-        let columns = |cells: Vec<Cell>| -> Vec<usize> { cells.iter().map(|cell| cell.column).collect() };
+        let columns = |row: Row| -> Vec<usize> { row.cells.iter().map(|cell| cell.column).collect() };
         let line = Line::new(1, "ä, \"b\" ,,c # d");
         assert_eq!(columns(line.cells(Character(','))), [1, 4, 9, 10]);
         assert_eq!(columns(line.words()), [1, 4, 10]);
-        assert_eq!(line.end(), 11);
+        assert_eq!(line.words().end, 11);
     }
 
     #[test]
     fn every_line_end_counts_once() {
         for end in ["\n", "\r\n", "\r"] {
             let text = plain(&["a", "", "b"].join(end));
-            let numbers: Vec<usize> = lines(&text).map(|line| line.number).collect();
-            assert_eq!(numbers, [1, 3], "{end:?}");
-            assert_eq!(count_lines(&text), 3, "{end:?}");
+            let rows: Vec<Row> = lines(&text).map(|line| line.words()).collect();
+            assert_eq!((rows[0].line, rows[2].line), (1, 3), "{end:?}");
+            assert_eq!((rows.len(), count_lines(&text)), (3, 3), "{end:?}");
         }
     }
 }

@@ -124,7 +124,13 @@ impl Request {
 /// The budgets in a file: a table with the column `budget`, or bare numbers.
 pub fn read_budgets(place: &Place) -> Result<Vec<u32>, Failure> {
     let name = place.input_name();
-    let text = text_of(&place.read()?, &name)?;
+    let bytes = place.read()?;
+    if is_word_file(&bytes) {
+        return Err(Failure::Fault(format!(
+            "{name}: a text in UTF-8 is expected, found a byte 0"
+        )));
+    }
+    let text = text_of(&bytes, &name)?;
     let fault = |fault: Fault| fault.of(&name);
     match sheet::bare_numbers(&text).map_err(fault)? {
         Some(list) => Ok(list),

@@ -2,7 +2,7 @@
 //!
 //! A further figure or column that a request may have is one more row of `FIGURES` or `COLUMNS` here; `Request` takes it up.
 
-use super::cells::{count_lines, lines, plain, Cell, Line, Separator};
+use super::cells::{count_lines, lines, plain, Cell, Line, Row, Separator};
 use super::fault::{quoted, Fault, END_OF_LINE};
 
 /// A figure that stands once in a request, by its name.
@@ -48,14 +48,12 @@ impl Sheet {
     /// The list, or what is wrong where the text has no such column.
     pub fn list(&mut self, which: usize) -> Result<Vec<u32>, Fault> {
         let expected = || format!("a table with the column '{}'", column_name(which));
-        self.lists[which]
-            .take()
-            .ok_or_else(|| Fault::at_end(self.end_line, expected()))
+        self.lists[which].take().ok_or_else(|| self.lacks(expected()))
     }
 
-    /// The fault of a text without some of its figures, which are expected before the table.
-    pub fn lacks(self, expected: String) -> Fault {
-        match self.table {
+    /// The fault of a text that has something else at the beginning of its table, or no table.
+    pub fn lacks(&self, expected: String) -> Fault {
+        match self.table.clone() {
             Some(table) => Fault { expected, ..table },
             None => Fault::at_end(self.end_line, expected),
         }
@@ -74,71 +72,34 @@ pub fn parse(text: &str) -> Result<Sheet, Fault> {
         end_line: count_lines(&text),
         ..Sheet::default()
     };
-    let mut table: Option<(Separator, Vec<Kind>)> = None;
-    for line in lines(&text) {
+    let mut lines = lines(&text);
+    for line in lines.by_ref() {
         closed(&line)?;
-        match &table {
-            Some((separator, columns)) => put_frame(&mut sheet, columns, &row(&line, *separator)?)?,
-            None if line.mark.is_some() => {}
-            None => match figure_of(&line) {
-                Some(which) => put_figure(&mut sheet, which, &Row::new(&line, line.words()))?,
-                None => {
-                    let separator = line.separator();
-                    let names = Row::new(&line, line.cells(separator));
-                    table = Some((separator, open_table(&mut sheet, &names)?));
-                }
-            },
+        if let Some(which) = figure_of(&line) {
+            put_figure(&mut sheet, which, &line.words())?;
+        } else if !line.words().cells.is_empty() {
+            let table = open_table(&mut sheet, &line)?;
+            put_frames(&mut sheet, &table, lines)?;
+            break;
         }
     }
     Ok(sheet)
 }
 
-/// The cells of a line, and where it stands and ends.
-struct Row<'a> {
-    line: usize,
-    end: usize,
-    cells: Vec<Cell<'a>>,
-}
-
-impl<'a> Row<'a> {
-    fn new(line: &Line<'a>, cells: Vec<Cell<'a>>) -> Row<'a> {
-        Row {
-            line: line.number,
-            end: line.end(),
-            cells,
-        }
-    }
-}
-
-/// The cells of a line with numbers. What may be a spreadsheet's `#N/A` is no comment here, so that no frame is passed over.
-fn row<'a>(line: &Line<'a>, separator: Separator) -> Result<Row<'a>, Fault> {
-    match line.mark {
-        None => Ok(Row::new(line, line.cells(separator))),
-        Some(mark) => Err(unlike(
-            &Row::new(line, vec![mark]),
-            0,
-            "a frame, or a comment with a blank behind its '#',",
-        )),
-    }
-}
-
 /// A line's double quotes come in pairs.
 fn closed(line: &Line<'_>) -> Result<(), Fault> {
     if line.has_open_quote() {
-        return Err(unlike(&Row::new(line, Vec::new()), 0, "a closing double quote"));
+        let Row { line, end, .. } = line.words();
+        let cells = Vec::new();
+        return Err(unlike(&Row { line, end, cells }, 0, "a closing double quote"));
     }
     Ok(())
 }
 
 /// The figure that a line names first.
 fn figure_of(line: &Line<'_>) -> Option<usize> {
-    let words = line.words();
-    let named = |name: &&str| {
-        words
-            .first()
-            .map_or(false, |first| first.text.eq_ignore_ascii_case(name))
-    };
-    FIGURES.iter().position(named)
+    let first = line.words().cells.first().copied()?;
+    FIGURES.iter().position(|name| first.text.eq_ignore_ascii_case(name))
 }
 
 fn put_figure(sheet: &mut Sheet, which: usize, line: &Row<'_>) -> Result<(), Fault> {
@@ -157,23 +118,40 @@ fn column_of(cell: &Cell<'_>) -> Option<usize> {
         .position(|(name, _)| cell.text.eq_ignore_ascii_case(name))
 }
 
-/// The columns that a line names, each once; their lists are there from now on.
-fn open_table(sheet: &mut Sheet, line: &Row<'_>) -> Result<Vec<Kind>, Fault> {
+/// A table's columns, what parts its cells, and how many cells a line may have, the empty ones behind the last name included.
+struct Table {
+    columns: Vec<Kind>,
+    separator: Separator,
+    width: usize,
+}
+
+/// The table whose columns a line names, each once; their lists are there from now on.
+fn open_table(sheet: &mut Sheet, line: &Line<'_>) -> Result<Table, Fault> {
+    let separator = line.separator();
+    let mut names = line.cells(separator);
+    let width = names.cells.len();
+    while names.cells.last().map_or(false, |last| last.text.is_empty()) {
+        names.cells.pop();
+    }
     let mut places = Vec::new();
-    for (i, cell) in line.cells.iter().enumerate() {
+    for (i, cell) in names.cells.iter().enumerate() {
         match column_of(cell) {
             Some(place) if !places.contains(&place) => places.push(place),
-            _ => return Err(unlike(line, i, &expected_name(i == 0, &places))),
+            _ => return Err(unlike(&names, i, &expected_name(i == 0, &places))),
         }
     }
-    sheet.table = Some(unlike(line, 0, ""));
+    sheet.table = Some(unlike(&names, 0, ""));
     let columns: Vec<Kind> = places.into_iter().map(|place| COLUMNS[place].1).collect();
     for column in &columns {
         if let Kind::List(list) = column {
             sheet.lists[*list] = Some(Vec::new());
         }
     }
-    Ok(columns)
+    Ok(Table {
+        columns,
+        separator,
+        width,
+    })
 }
 
 /// The names that may stand at the beginning of a line, or behind the columns already named.
@@ -188,32 +166,71 @@ fn expected_name(begins: bool, named: &[usize]) -> String {
     format!("{figures}a column ({})", columns.join(", "))
 }
 
+/// Puts the frames of a table into the lists of its columns. A line of empty cells counts for nothing behind the last frame
+/// alone: no frame is passed over.
+fn put_frames<'a>(sheet: &mut Sheet, table: &Table, lines: impl Iterator<Item = Line<'a>>) -> Result<(), Fault> {
+    let mut gap = None;
+    for line in lines {
+        closed(&line)?;
+        sure(line.doubtful_cell(table.separator))?;
+        let row = line.cells(table.separator);
+        if line.is_empty_row(table.separator) {
+            gap = gap.or_else(|| Some(unlike(&row, 0, "a frame")));
+        } else if !line.is_blank() {
+            gap.take().map_or(Ok(()), Err)?;
+            put_frame(sheet, table, &row)?;
+        }
+    }
+    Ok(())
+}
+
+/// A comment that may be meant as a number is a fault: a spreadsheet's `#N/A` must not be passed over.
+fn sure(doubtful: Option<Row<'_>>) -> Result<(), Fault> {
+    match doubtful {
+        None => Ok(()),
+        Some(row) => Err(unlike(&row, 0, "a cell, or a comment with a blank behind its '#',")),
+    }
+}
+
 /// Puts a frame's cells into the lists of their columns.
-fn put_frame(sheet: &mut Sheet, columns: &[Kind], line: &Row<'_>) -> Result<(), Fault> {
+fn put_frame(sheet: &mut Sheet, table: &Table, row: &Row<'_>) -> Result<(), Fault> {
+    let columns = &table.columns;
+    if table.separator == Separator::Blanks && row.cells.len() < columns.len() {
+        return Err(unlike(row, row.cells.len(), "a cell for each column"));
+    }
     for (i, column) in columns.iter().enumerate() {
         if let Kind::List(list) = column {
-            let value = number(line, i)?;
+            let value = number(row, i)?;
             sheet.lists[*list].get_or_insert_with(Vec::new).push(value);
         }
     }
-    ends(line, columns.len())
+    if row.cells.len() > table.width && table.separator != Separator::Blanks {
+        return Err(unlike(
+            row,
+            table.width,
+            "no more separators than in the table's first line",
+        ));
+    }
+    let behind = |(i, cell): &(usize, &Cell)| *i >= columns.len() && !cell.text.is_empty();
+    match row.cells.iter().enumerate().find(behind) {
+        None => Ok(()),
+        Some((i, _)) => Err(unlike(row, i, END_OF_LINE)),
+    }
 }
 
 /// Reads bare numbers parted by blanks, however many stand in a line; none where the text is empty or begins with a name.
 pub fn bare_numbers(text: &str) -> Result<Option<Vec<u32>>, Fault> {
     let mut list = Vec::new();
     for line in lines(&plain(text)) {
-        let is_first = list.is_empty();
-        let named = figure_of(&line).is_some() || line.words().first().map_or(false, |cell| column_of(cell).is_some());
-        match line.mark {
-            Some(_) if is_first => {}
-            None if is_first && named => return Ok(None),
-            _ => {
-                let line = row(&line, Separator::Blanks)?;
-                for i in 0..line.cells.len() {
-                    list.push(number(&line, i)?);
-                }
-            }
+        let names = |cell: &Cell| column_of(cell).is_some();
+        let is_named = figure_of(&line).is_some() || line.words().cells.first().map_or(false, names);
+        if list.is_empty() && is_named {
+            return Ok(None);
+        }
+        sure(line.doubtful())?;
+        let row = line.cells(Separator::Blanks);
+        for i in 0..row.cells.len() {
+            list.push(number(&row, i)?);
         }
     }
     Ok((!list.is_empty()).then_some(list))
@@ -283,7 +300,8 @@ mod tests {
             assert_eq!(said(text), day, "{text:?}");
         }
         assert_eq!(said("harvest\n"), (None, None, None, vec![]));
-        assert_eq!(said("#capacity 7\ntime\tharvest\n\"6 h\"\t6\n# noon\n").3, [6]);
+        assert_eq!(said("#capacity 7\ntime\tharvest #a\n\"6 h\"\t6 #b\n# noon\n").3, [6]);
+        assert_eq!(said("frame harvest\n1 6 #noon\n\n2 4\n").3, [6, 4]);
     }
 
     #[test]
@@ -304,9 +322,10 @@ mod tests {
         );
         assert_eq!(fault("harvest\n6 4"), "2:3: the end of the line is expected, found '4'");
         assert_eq!(fault("harvest\n1.5"), format!("2:1: {number} '1.5'"));
+        assert_eq!(fault("time,harvest\n06:00,"), format!("2:7: {number} nothing"));
         assert_eq!(
-            fault("time,harvest\n,\n06:00,,"),
-            format!("3:8: {number} the end of the line")
+            fault("time,harvest\n06:00"),
+            format!("2:6: {number} the end of the line")
         );
         assert_eq!(fault("harvest,budget\n,3"), format!("2:1: {number} nothing"));
         assert_eq!(fault("harvest\n6\nend 2"), format!("3:1: {number} 'end'"));
@@ -318,19 +337,33 @@ mod tests {
         assert_eq!(fault("harvest;time\n6,5;"), format!("2:1: {number} '6,5'"));
         assert_eq!(fault("harvest,time\n1 000,"), format!("2:1: {number} '1 000'"));
         assert_eq!(fault("harvest\n1,000"), format!("2:1: {number} '1,000'"));
-        assert_eq!(
-            fault("time;harvest\n12,30;"),
-            format!("2:7: {number} the end of the line")
-        );
+        assert_eq!(fault("time;harvest\n12,30;"), format!("2:7: {number} nothing"));
         assert_eq!(
             fault("time\tharvest\tuse\n06:00\t\t5"),
             format!("2:7: {number} nothing")
         );
         // A spreadsheet's error is no comment.
-        let frame = "a frame, or a comment with a blank behind its '#', is expected, found";
-        assert_eq!(fault("harvest,time\n6,6 h\n#N/A,7 h\n"), format!("3:1: {frame} '#N/A'"));
+        let cell = "a cell, or a comment with a blank behind its '#', is expected, found";
+        assert_eq!(fault("harvest,time\n6,6 h\n#N/A,7 h\n"), format!("3:1: {cell} '#N/A'"));
+        assert_eq!(fault("harvest,time\n6,6 h\n#,7 h\n"), format!("3:1: {cell} '#'"));
+        assert_eq!(fault("time, harvest\n6 h, 6\n, #N/A\n"), format!("3:3: {cell} '#N/A'"));
         assert_eq!(fault("time,harvest\n7 h,#N/A\n"), format!("2:5: {number} '#N/A'"));
-        assert_eq!(fault("harvest\n6\n###\n"), format!("3:1: {frame} '###'"));
+        assert_eq!(fault("harvest\n6\n###\n"), format!("3:1: {cell} '###'"));
+        // No cell and no frame is passed over.
+        let each = "a cell for each column is expected, found the end of the line";
+        assert_eq!(fault("frame harvest use\n1 6 3\n2   3\n"), format!("3:6: {each}"));
+        assert_eq!(fault("harvest use\n\"\" 3\n"), format!("2:1: {number} nothing"));
+        assert_eq!(
+            fault("time,harvest,use\n6 h,1,000,\n"),
+            "2:11: no more separators than in the table's first line is expected, found nothing"
+        );
+        let frame = "a frame is expected, found nothing";
+        assert_eq!(fault("harvest,use\n6,1\n,\n4,2\n"), format!("3:1: {frame}"));
+        assert_eq!(
+            fault("harvest\ttime\n6\t6 h\n\t\n4\t7 h\n").split(':').next(),
+            Some("3")
+        );
+        assert_eq!(fault("harvest\n6\n\"\"\n4\n"), format!("3:1: {number} nothing"));
         assert_eq!(
             fault("time,harvest\n\"06:00,6\n"),
             "2:9: a closing double quote is expected, found the end of the line"
@@ -345,7 +378,10 @@ mod tests {
         let table = "a table with the column 'harvest' is expected, found the end of the text";
         assert_eq!(fault(""), format!("1:1: {table}"));
         assert_eq!(fault("capacity 5\n"), format!("2:1: {table}"));
-        assert_eq!(fault("budget\n5"), format!("2:1: {table}"));
+        assert_eq!(
+            fault("capacity 5\nbudget\n5"),
+            "2:1: a table with the column 'harvest' is expected, found 'budget'"
+        );
     }
 
     #[test]
@@ -359,14 +395,18 @@ mod tests {
 
     #[test]
     fn bare_lists() {
-        assert_eq!(
-            bare_numbers("#today\n4 4\t4\n# none\n4  2 2"),
-            Ok(Some(vec![4, 4, 4, 4, 2, 2]))
-        );
+        let list = bare_numbers("# today\n4 4\t4\n# none\n4  2 2 # two");
+        assert_eq!(list, Ok(Some(vec![4, 4, 4, 4, 2, 2])));
         for text in ["budget\n4", "Budget,time\n4", "capacity 5", " # none", ""] {
             assert_eq!(bare_numbers(text), Ok(None), "{text:?}");
         }
-        for (text, place) in [("4\n4 x", "2:3"), ("-4", "1:1"), ("1,000", "1:1"), ("4\n#N/A", "2:1")] {
+        for (text, place) in [
+            ("4\n4 x", "2:3"),
+            ("-4", "1:1"),
+            ("1,000", "1:1"),
+            ("#N/A\n4", "1:1"),
+            ("4\t#N/A\t3", "1:3"),
+        ] {
             let fault = bare_numbers(text).unwrap_err();
             assert_eq!(format!("{}:{}", fault.line, fault.column), place, "{text:?}");
         }
