@@ -39,16 +39,26 @@ impl Place {
         (!self.is_standard()).then_some(self.0.as_path())
     }
 
-    /// Refuses an output that is one of the inputs: it would take their place.
+    /// The file that it is or stands for.
+    fn stands_for(&self, standard: &str) -> Option<(u64, u64)> {
+        let known = fs::metadata(self.file().unwrap_or_else(|| Path::new(standard))).ok()?;
+        known.is_file().then(|| identity(&known))
+    }
+
+    /// Refuses an output that is one of the inputs, whose place it would take, or another name of a standard output.
     pub fn is_none_of(&self, inputs: &[&Place]) -> Result<(), Failure> {
-        let same = |input: &&&Place| is_same(self.file(), input.file());
-        match inputs.iter().find(same) {
-            None => Ok(()),
-            Some(_) => Err(Failure::Fault(format!(
-                "gomzhiva: {}: an output that is no input is expected; nothing is written",
-                self.0.display()
-            ))),
+        let mut others: Vec<_> = inputs.iter().map(|input| input.stands_for("/dev/stdin")).collect();
+        if !self.is_standard() {
+            others.extend(["/dev/stdout", "/dev/stderr"].map(|name| Place(name.into()).stands_for(name)));
         }
+        let own = self.stands_for("/dev/stdout");
+        if own.is_some() && others.contains(&own) {
+            let name = self.name("standard output");
+            return Err(Failure::Fault(format!(
+                "gomzhiva: {name}: an output that is neither an input nor another output is expected; nothing is written"
+            )));
+        }
+        Ok(())
     }
 
     /// What messages call it as an input.
@@ -56,11 +66,16 @@ impl Place {
         self.name("standard input")
     }
 
+    /// As it was given.
+    pub fn given(&self) -> String {
+        self.0.display().to_string()
+    }
+
     fn name(&self, standard: &str) -> String {
         if self.is_standard() {
             standard.to_string()
         } else {
-            self.0.display().to_string()
+            self.given()
         }
     }
 
@@ -94,15 +109,6 @@ fn read_file(path: &Path) -> io::Result<Vec<u8>> {
     let mut bytes = Vec::new();
     File::open(path)?.take(READ_BYTES).read_to_end(&mut bytes)?;
     Ok(bytes)
-}
-
-/// Two names of one file.
-fn is_same(one: Option<&Path>, other: Option<&Path>) -> bool {
-    let known = |path: Option<&Path>| path.and_then(|path| fs::metadata(path).ok());
-    match (known(one), known(other)) {
-        (Some(one), Some(other)) => one.is_file() && identity(&one) == identity(&other),
-        _ => false,
-    }
 }
 
 /// What a file is whatever its name.
@@ -200,8 +206,8 @@ fn fill(mut file: File, bytes: &[u8], known: Option<Metadata>) -> io::Result<()>
         if (known.uid(), known.gid()) != (own.uid(), own.gid()) {
             // SAFETY: both numbers are those of a file.
             let (owner, group) = unsafe { (Uid::from_raw(known.uid()), Gid::from_raw(known.gid())) };
-            // Who may not give a file away keeps it; the permissions stay in either case.
-            let _ = fchown(&file, Some(owner), Some(group));
+            // Who may not give a file away keeps it, and gives it to the group if that is allowed; the permissions stay.
+            let _ = fchown(&file, Some(owner), Some(group)).or_else(|_| fchown(&file, None, Some(group)));
         }
         file.set_permissions(known.permissions())?;
     }

@@ -7,6 +7,7 @@ use energy::{Energy, Figures, LISTING_BYTES, MAX_CAPACITY, MAX_FILE_BYTES, MAX_F
 use evidence::reference::Reference;
 use proptest::prelude::*;
 use std::fs;
+use std::process::Command;
 
 const TABLE: &str = "\
 frame  harvest  budget  charge
@@ -257,10 +258,12 @@ fn every_refusal_of_a_request() {
 #[test]
 fn budgets_of_another_length_and_malformed_files_are_refused() {
     let folder = folder_of_the_day();
-    assert_refused(
-        &folder.run_with(&["trace", "day.txt", "-"], b"1 2 3 4 5"),
-        "refused 7 0",
-    );
+    let short = folder.run_with(&["trace", "day.txt", "-"], b"1 2 3 4 5");
+    assert_refused(&short, "refused 7 0");
+    assert!(short.err.ends_with("; 5 budgets for 6 frames\n"), "{}", short.err);
+    let words = folder.run_with(&["grade", "-"], &day_words());
+    let expected = "standard input: a text in UTF-8 is expected, found a byte 0\n";
+    assert_eq!((words.status, words.err.as_str()), (Some(2), expected));
     folder.write("kind", [9, 0, 0, 0, 1, 0, 0, 0x40]);
     folder.write("torn", &day_words()[..day_words().len() - 1]);
     folder.write(
@@ -372,13 +375,26 @@ fn an_output_is_none_of_the_inputs() {
     ];
     for (arguments, output) in outputs {
         let ran = folder.run(arguments);
-        let message = format!("gomzhiva: {output}: an output that is no input is expected; nothing is written\n");
-        assert_eq!((ran.status, ran.err), (Some(2), message), "{arguments:?}");
+        assert_eq!((ran.status, ran.err), (Some(2), not_an_output(output)), "{arguments:?}");
     }
-    assert_eq!(
-        (folder.read("day.txt"), folder.read("day.words")),
-        (DAY.into(), day_words())
-    );
+    // By whatever name: the input of a pipe, or what standard output is connected to.
+    for (command, output) in [
+        ("\"$0\" words - day.txt <day.txt", "day.txt"),
+        ("\"$0\" trace day.txt - --chart budgets <budgets", "budgets"),
+        ("\"$0\" text day.txt >>day.txt", "standard output"),
+        ("\"$0\" plan day.txt --chart log >>log", "log"),
+    ] {
+        let mut shell = Command::new("sh");
+        shell.args(["-c", command, env!("CARGO_BIN_EXE_gomzhiva")]);
+        let ran = Ran::from(shell.current_dir(folder.path()).output().expect("a shell"));
+        assert_eq!((ran.status, ran.err), (Some(2), not_an_output(output)), "{command}");
+    }
+    let kept = ["day.txt", "day.words", "budgets", "log"].map(|name| folder.read(name));
+    assert_eq!(kept, [DAY.into(), day_words(), b"4 3 3 2 4 4".to_vec(), Vec::new()]);
+}
+
+fn not_an_output(name: &str) -> String {
+    format!("gomzhiva: {name}: an output that is neither an input nor another output is expected; nothing is written\n")
 }
 
 #[test]

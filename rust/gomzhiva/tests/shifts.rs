@@ -95,16 +95,43 @@ fn a_rest_that_is_short_says_by_how_much() {
              Short: with nothing used in the 1 frame left, the end charge of 8 Wh is still missed by 2 Wh, so every budget is 0.\n"
         )
     );
-    let title = "Shift: 1 of 2 frames recorded, the rest short by 2 Wh";
-    assert!(folder.run(&CHART).text().contains(title));
+    let picture = folder.run(&CHART);
+    assert!(picture
+        .text()
+        .contains("Shift: 1 of 2 frames recorded; the rest is short by 2 Wh"));
+    assert_eq!(
+        (picture.status, picture.err.as_str()),
+        (Some(0), "gomzhiva: the rest is short by 2 Wh\n")
+    );
+    assert_eq!(record(&folder, 0, 0).status, Some(0));
+    let missed = "the charge ends at 5 Wh, below the end charge of 8 Wh";
+    let picture = folder.run(&CHART);
+    assert!(picture
+        .text()
+        .contains(&format!("Shift: 2 of 2 frames recorded; {missed}")));
+    assert_eq!(picture.err, format!("gomzhiva: {missed}\n"));
+    assert_eq!(folder.run(&SHOW).err, format!("gomzhiva: {missed}\n"));
 }
 
 #[test]
 fn a_picture_does_not_take_the_journals_place() {
     let folder = folder_of_a_shift();
     let before = folder.read("journal");
-    let ran = folder.run(&["shift", "chart", "journal", "--journal", "./journal"]);
-    assert_eq!((ran.status, folder.read("journal")), (Some(2), before), "{}", ran.err);
+    folder.write("day.txt", DAY);
+    for arguments in [
+        &["shift", "chart", "journal", "--journal", "./journal"][..],
+        &["plan", "day.txt", "--chart", "journal"],
+        &["words", "day.txt", "journal"],
+        &["text", "day.txt", "journal"],
+    ] {
+        let ran = folder.run(arguments);
+        assert_eq!(
+            (ran.status, folder.read("journal")),
+            (Some(2), before.clone()),
+            "{}",
+            ran.err
+        );
+    }
 }
 
 #[test]
@@ -151,7 +178,9 @@ fn rest_table(shift: &Shift, forecast: &[u32], budgets: &[u32]) -> String {
 }
 
 /// A shift's calls, refused ones among them: each is answered as the logbook says, and the journal holds the accepted ones.
-fn assert_logbooks(random: &mut Random) {
+/// Gives how often the rest was short.
+fn assert_logbooks(random: &mut Random) -> u32 {
+    let mut shorts = 0;
     let folder = Folder::new();
     let frames = 1 + random.up_to(6) as usize;
     let forecast = random.list(frames, 9);
@@ -159,14 +188,14 @@ fn assert_logbooks(random: &mut Random) {
     let figures = Figures {
         capacity,
         start: random.up_to_u32(capacity),
-        end: random.up_to_u32(capacity / 2),
+        end: random.up_to_u32(capacity),
     };
     let request = request_text(capacity, figures.start, figures.end, &forecast);
     let started = start(&folder, &request);
     if let Err(refusal) = Reference.shift_start(figures, &forecast) {
         assert_eq!((started.status, started.text()), (Some(1), format!("{refusal}\n")));
         assert!(folder.names().is_empty());
-        return;
+        return 0;
     }
     let mut logbook = Logbook::open(figures, &forecast);
     assert_eq!(
@@ -205,16 +234,19 @@ fn assert_logbooks(random: &mut Random) {
         let plan = folder.run(&[&PLAN[..], &["--csv"]].concat());
         match logbook.plan_rest(&forecast, &mut budgets) {
             Ok(rest) => {
-                assert_eq!(
-                    told(plan),
-                    done(&rest_table(&logbook.record_now(), &forecast, &budgets))
-                );
+                let table = rest_table(&logbook.record_now(), &forecast, &budgets);
+                assert_eq!((plan.status, plan.text()), (Some(0), table));
                 let words = folder.run(&PLAN).text();
-                let missed = match rest {
-                    Rest::Planned => " left: ".to_string(),
-                    Rest::Short { missing } => format!("missed by {missing} Wh"),
+                let (missed, warning) = match rest {
+                    Rest::Planned => (" left: ".to_string(), String::new()),
+                    Rest::Short { missing } => {
+                        let last = words.lines().last().expect("words");
+                        (format!("missed by {missing} Wh"), format!("gomzhiva: {last}\n"))
+                    }
                 };
                 assert!(words.contains(&missed), "{words}");
+                assert_eq!(plan.err, warning, "a short rest is told beside its zeros");
+                shorts += u32::from(rest != Rest::Planned);
             }
             Err(refusal) => {
                 assert_eq!(plan.status, Some(1));
@@ -222,14 +254,22 @@ fn assert_logbooks(random: &mut Random) {
             }
         }
         assert_eq!(calls(&folder), accepted);
-        assert_eq!(told(folder.run(&SHOW)), done(&rows));
+        let shown = folder.run(&SHOW);
+        assert_eq!((shown.status, shown.text()), (Some(0), rows.clone()));
+        let shift = logbook.record_now();
+        let missed = shift.recorded == shift.frames && shift.charge < shift.end;
+        assert_eq!(shown.err.contains("below the end charge"), missed);
     }
     assert!(logbook.balances());
+    shorts
 }
 
 #[test]
 fn every_call_is_answered_as_the_logbook_says() {
-    (0..60).for_each(|case| assert_logbooks(&mut Random::of_case(seed(), case)));
+    let shorts: u32 = (0..60)
+        .map(|case| assert_logbooks(&mut Random::of_case(seed(), case)))
+        .sum();
+    assert!(shorts > 0, "no rest was short");
 }
 
 #[test]
@@ -374,6 +414,14 @@ fn what_is_no_journal_is_refused() {
         folder.write("journal", foreign);
         assert_damaged(&folder, 1);
     }
+    let long = [
+        folder_of_a_shift().read("journal"),
+        vec![0; 1 << 20],
+        b"record 1 1".to_vec(),
+    ]
+    .concat();
+    folder.write("journal", long);
+    assert_damaged(&folder, 4);
     let zero = folder.run(&["shift", "show", "--journal", "/dev/zero"]);
     assert_eq!(zero.status, Some(2), "an endless file is no journal: {}", zero.err);
     fs::create_dir(folder.file("directory")).expect("a directory");
@@ -505,17 +553,26 @@ fn a_journal_that_was_moved_while_it_was_waited_for_is_not_written() {
     assert_eq!((folder.read("yesterday"), calls(&folder).len()), (moved, 2));
 }
 
-#[test]
-fn nobody_waits_for_an_answer_that_is_not_read() {
-    let folder = folder_of_a_shift();
+/// A stream that takes no more until its other end is read.
+fn full_stream() -> (OwnedFd, UnixStream) {
     let (mut output, reader) = UnixStream::pair().expect("two ends");
     output.set_nonblocking(true).expect("a stream");
     while output.write(&[0; 4096]).is_ok() {}
     output.set_nonblocking(false).expect("a stream");
+    (output.into(), reader)
+}
+
+#[test]
+fn nobody_waits_for_an_answer_that_is_not_read() {
+    let folder = folder_of_a_shift();
+    let whole = folder.read("journal");
+    folder.write("journal", [&whole[..], b"rec"].concat());
+    let ((output, reader), (notices, notices_reader)) = (full_stream(), full_stream());
     let mut command = folder.command(&["shift", "record", "0", "0", "--journal", "journal"]);
     let mut unread = command
         .stdin(Stdio::null())
-        .stdout(OwnedFd::from(output))
+        .stdout(output)
+        .stderr(notices)
         .spawn()
         .expect("the program starts");
     let lines = || folder.read("journal").iter().filter(|&&byte| byte == b'\n').count();
@@ -524,7 +581,7 @@ fn nobody_waits_for_an_answer_that_is_not_read() {
     }
     assert_eq!(folder.run(&SHOW).status, Some(0));
     assert_eq!(unread.try_wait().expect("a child"), None, "its answer is not read yet");
-    drop(reader);
+    drop((reader, notices_reader));
     unread.wait().expect("the program ends");
 }
 

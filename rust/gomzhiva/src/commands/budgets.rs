@@ -1,5 +1,6 @@
 //! Budgets with the charges that they lead to, as a table and as a picture.
 
+use super::write;
 use crate::chart::{svg, Picture};
 use crate::cli::ReportArguments;
 use crate::failure::Failure;
@@ -63,8 +64,7 @@ impl<'a> Budgets<'a> {
             return Err(Failure::Fault(message.into()));
         }
         if let Some(place) = &report.chart {
-            place.is_none_of(shown.inputs)?;
-            place.write(svg(&self.picture(shown.title)).as_bytes())?;
+            write(place, shown.inputs, svg(&self.picture(shown.title)).as_bytes())?;
         }
         if report.table.csv {
             print(&self.table(0).csv())?;

@@ -7,7 +7,8 @@ mod trace;
 
 use crate::cli::{Command, OutputArguments};
 use crate::failure::Failure;
-use crate::files::print;
+use crate::files::{print, Place};
+use crate::journal::is_no_journal;
 use crate::request::{read_budgets, RequestArguments};
 use energy::{Energy, Linked};
 
@@ -31,14 +32,19 @@ fn needed(request: &RequestArguments) -> Result<(), Failure> {
 
 fn words(request: &RequestArguments, output: &OutputArguments) -> Result<(), Failure> {
     let file = request.read()?.request()?.word_file()?;
-    output.output.is_none_of(&[&request.request])?;
-    output.output.write(&file)
+    write(&output.output, &[&request.request], &file)
 }
 
 fn text(request: &RequestArguments, output: &OutputArguments) -> Result<(), Failure> {
     let text = request.read()?.request()?.text();
-    output.output.is_none_of(&[&request.request])?;
-    output.output.write(text.as_bytes())
+    write(&output.output, &[&request.request], text.as_bytes())
+}
+
+/// Writes an output that was made of these inputs, and takes the place of none of them.
+fn write(output: &Place, inputs: &[&Place], bytes: &[u8]) -> Result<(), Failure> {
+    output.is_none_of(inputs)?;
+    is_no_journal(output)?;
+    output.write(bytes)
 }
 
 /// What budgets earn, in words.

@@ -1,6 +1,7 @@
 //! `shift`: a running shift over its journal.
 
 use super::budgets::Budgets;
+use super::write;
 use crate::chart::{svg, Picture};
 use crate::cli::{JournalArguments, OutputArguments, ShiftCommand};
 use crate::failure::Failure;
@@ -22,10 +23,7 @@ pub fn run(command: &ShiftCommand) -> Result<(), Failure> {
         } => record(*harvest, *used, *frame, journal),
         ShiftCommand::Plan { journal, table } => plan(&look(journal)?, table.csv),
         ShiftCommand::Show { journal, table } => show(&look(journal)?, table.csv),
-        ShiftCommand::Chart { output, journal } => {
-            output.output.is_none_of(&[&journal.journal])?;
-            chart(&look(journal)?, output)
-        }
+        ShiftCommand::Chart { output, journal } => chart(journal, output),
     }
 }
 
@@ -35,7 +33,8 @@ fn start(request: &RequestArguments, journal: &JournalArguments) -> Result<(), F
 }
 
 fn record(harvest: u32, used: u32, frame: Option<u32>, journal: &JournalArguments) -> Result<(), Failure> {
-    let mut journal = open(journal, Purpose::Record)?;
+    let mut journal = Journal::open(&journal.journal, Purpose::Record)?;
+    let notice = journal.notice();
     let Shift { frames, recorded, .. } = journal.running.shift;
     let next = recorded + 1;
     // After the last frame there is none to compare with, and the library refuses any recording.
@@ -44,10 +43,12 @@ fn record(harvest: u32, used: u32, frame: Option<u32>, journal: &JournalArgument
             "gomzhiva: --frame {frame}: the next frame is {next}; nothing is recorded"
         )));
     }
-    journal.record(harvest, used)?;
+    let done = journal.record(harvest, used);
     let shift = journal.running.shift;
-    // Others need not wait until the answer is read.
+    // Others need not wait until what is told here is read.
     drop(journal);
+    notice.into_iter().for_each(tell);
+    done?;
     answer(&format!("recorded frame {next}"), &shift)
 }
 
@@ -57,17 +58,12 @@ fn answer(done: &str, shift: &Shift) -> Result<(), Failure> {
         .map_err(|failure| failure.with(&format!("{done} all the same")))
 }
 
+/// Opens a journal to look at it, and tells of a torn line.
 fn look(journal: &JournalArguments) -> Result<Running, Failure> {
-    Ok(open(journal, Purpose::Look)?.running)
-}
-
-/// Opens a journal, and tells of a torn line.
-fn open(journal: &JournalArguments, purpose: Purpose) -> Result<Journal, Failure> {
-    let journal = Journal::open(&journal.journal, purpose)?;
-    if let Some(notice) = journal.notice() {
-        tell(notice);
-    }
-    Ok(journal)
+    let journal = Journal::open(&journal.journal, Purpose::Look)?;
+    let (notice, running) = (journal.notice(), journal.running);
+    notice.into_iter().for_each(tell);
+    Ok(running)
 }
 
 /// How a shift stands, in words.
@@ -98,10 +94,12 @@ fn show(running: &Running, csv: bool) -> Result<(), Failure> {
             ("charge", column(&running.column(|r| r.charge))),
         ],
     };
-    if csv {
-        return print(&table.csv());
+    if !csv {
+        return print(&format!("{}\n{}\n", table.aligned(), standing(&running.shift)));
     }
-    print(&format!("{}\n{}\n", table.aligned(), standing(&running.shift)))
+    print(&table.csv())?;
+    warn(missed_end(&running.shift));
+    Ok(())
 }
 
 fn plan(running: &Running, csv: bool) -> Result<(), Failure> {
@@ -114,9 +112,7 @@ fn plan(running: &Running, csv: bool) -> Result<(), Failure> {
         return print(&format!("{}\n{words}\n", table.aligned()));
     }
     print(&table.csv())?;
-    if let Rest::Short { .. } = rest {
-        tell(format!("gomzhiva: {words}"));
-    }
+    warn(matches!(rest, Rest::Short { .. }).then_some(words));
     Ok(())
 }
 
@@ -153,19 +149,23 @@ fn rest_words(rest: Rest, running: &Running, traced: &Budgets<'_>) -> String {
     }
 }
 
-/// What a picture's title says of a rest that is short.
-fn short_by(rest: Rest) -> String {
-    match rest {
-        Rest::Planned => String::new(),
-        Rest::Short { missing } => format!(", the rest short by {missing} Wh"),
-    }
+/// What a finished shift's charge misses, in words.
+fn missed_end(shift: &Shift) -> Option<String> {
+    let missed = shift.recorded == shift.frames && shift.charge < shift.end;
+    missed.then(|| ending(shift.charge.into(), shift.end))
+}
+
+/// Tells what standard output has no place for.
+fn warn(words: Option<String>) {
+    words.into_iter().for_each(|words| tell(format!("gomzhiva: {words}")));
 }
 
 /// Draws what was recorded and, behind it, the plan of the rest with its needed capacity.
-fn chart(running: &Running, output: &OutputArguments) -> Result<(), Failure> {
+fn chart(journal: &JournalArguments, output: &OutputArguments) -> Result<(), Failure> {
+    let running = &look(journal)?;
     let rest = rest_request(running);
-    let (budgets, charges, short) = match running.plan_rest() {
-        Err(Refusal::AllRecorded) => (Vec::new(), Vec::new(), String::new()),
+    let (budgets, charges, warning) = match running.plan_rest() {
+        Err(Refusal::AllRecorded) => (Vec::new(), Vec::new(), missed_end(&running.shift)),
         planned => {
             let (planned, budgets) = planned?;
             let traced = Budgets::trace(&rest, budgets)?;
@@ -174,11 +174,11 @@ fn chart(running: &Running, output: &OutputArguments) -> Result<(), Failure> {
     };
     let harvest = [running.column(|r| r.harvest), rest.harvest].concat();
     let recorded = running.recorded.len();
+    let title = format!("Shift: {recorded} of {} recorded", counted(harvest.len(), "frame"));
     let picture = Picture {
-        title: &format!(
-            "Shift: {recorded} of {} recorded{short}",
-            counted(harvest.len(), "frame")
-        ),
+        title: &warning
+            .iter()
+            .fold(title, |title, warning| format!("{title}; {warning}")),
         capacity: rest.figures.capacity,
         needed: Linked
             .needed(rest.figures.start, rest.figures.end, running.rest_harvest())
@@ -190,5 +190,15 @@ fn chart(running: &Running, output: &OutputArguments) -> Result<(), Failure> {
         charges: &[column(&running.column(|r| r.charge)), charges].concat(),
         recorded,
     };
-    output.output.write(svg(&picture).as_bytes())
+    write(&output.output, &[&journal.journal], svg(&picture).as_bytes())?;
+    warn(warning);
+    Ok(())
+}
+
+/// How much a rest is short of, in words.
+fn short_by(rest: Rest) -> Option<String> {
+    match rest {
+        Rest::Planned => None,
+        Rest::Short { missing } => Some(format!("the rest is short by {missing} Wh")),
+    }
 }

@@ -8,7 +8,7 @@ pub use call::Call;
 pub use running::Running;
 
 use crate::failure::Failure;
-use crate::files::{self, Place};
+use crate::files::{self, Place, MOST_BYTES};
 use crate::request::{quoted, Fault, Request};
 use rustix::fs::{flock, FlockOperation};
 use seal::{written, Seal};
@@ -28,6 +28,27 @@ pub struct Journal {
     unended: bool,
     /// The number of a torn last line, which was never answered.
     torn: Option<usize>,
+}
+
+/// Refuses an output that is the journal of a shift, whichever.
+pub fn is_no_journal(output: &Place) -> Result<(), Failure> {
+    const BEGINNING: &[u8] = b"start capacity ";
+    let begins = |path: &Path| {
+        let mut bytes = [0; BEGINNING.len()];
+        let is_file = fs::metadata(path).map_or(false, |known| known.is_file());
+        is_file
+            && File::open(path)
+                .and_then(|mut file| file.read_exact(&mut bytes))
+                .is_ok()
+            && bytes == *BEGINNING
+    };
+    match output.file().filter(|path| begins(path)) {
+        None => Ok(()),
+        Some(path) => Err(Failure::Fault(format!(
+            "gomzhiva: {}: an output that is no shift's journal is expected; nothing is written",
+            path.display()
+        ))),
+    }
 }
 
 /// What a journal is opened for.
@@ -65,6 +86,10 @@ impl Journal {
         };
         journal.keep(first);
         for (line, number) in lines {
+            // No journal has more bytes than are read, and what is not read may be anything.
+            if bytes.len() > MOST_BYTES && journal.is_torn(line) {
+                return Err(damaged(path, number, "the end of the journal", line));
+            }
             journal.run_again(line, number)?;
         }
         Ok(journal)
@@ -142,7 +167,8 @@ impl Journal {
 
 /// A journal is a file, since it is locked and looked at again.
 fn file_of(place: &Place) -> Result<&Path, Failure> {
-    let fault = || Failure::Fault("gomzhiva: --journal: the name of a file is expected, found '-'".into());
+    let expected = "gomzhiva: --journal: the name of a file is expected, found";
+    let fault = || Failure::Fault(format!("{expected} {}", quoted(&place.given())));
     place.file().ok_or_else(fault)
 }
 
@@ -161,7 +187,6 @@ fn lock_and_read(path: &Path, purpose: Purpose) -> io::Result<(File, Vec<u8>)> {
             break file;
         }
     };
-    // No journal is longer than that: what is cut off here belongs to none.
     let mut bytes = Vec::new();
     (&mut file).take(files::READ_BYTES).read_to_end(&mut bytes)?;
     Ok((file, bytes))

@@ -159,7 +159,12 @@ impl Folder {
         const NOBODY: u32 = 65534;
         let place = Folder::new();
         let program = place.file("gomzhiva");
-        fs::copy(env!("CARGO_BIN_EXE_gomzhiva"), &program).expect("a copy of the program");
+        // Copied by another process: one that is forked here meanwhile would hold it open, and it could not be run.
+        let copied = Command::new("cp")
+            .arg(env!("CARGO_BIN_EXE_gomzhiva"))
+            .arg(&program)
+            .status();
+        assert!(copied.expect("the command cp").success());
         fs::set_permissions(place.path(), Permissions::from_mode(0o755)).expect("a folder for everybody");
         let mut command = Command::new(program);
         if fs::metadata(place.path()).expect("a folder").uid() == 0 {
