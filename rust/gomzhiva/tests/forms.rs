@@ -89,7 +89,13 @@ fn dresses() -> impl Strategy<Value = Dress> {
 }
 
 impl Dress {
+    /// The request as this text.
     fn write(&self, request: &Request) -> String {
+        self.write_with(request, None)
+    }
+
+    /// The same with another harvest in a frame.
+    fn write_with(&self, request: &Request, other: Option<(usize, &str)>) -> String {
         let Figures { capacity, start, end } = request.figures;
         let figures = [("capacity", capacity), ("start", start), ("end", end)];
         let mut lines = Vec::new();
@@ -100,7 +106,11 @@ impl Dress {
         let names: Vec<String> = self.columns.iter().map(|name| self.name(name)).collect();
         lines.push(self.line(&names));
         for (i, harvest) in request.harvest.iter().enumerate() {
-            let cells: Vec<String> = self.columns.iter().map(|name| self.cell(name, i, *harvest)).collect();
+            let harvest = match other {
+                Some((frame, harvest)) if frame == i => harvest.to_string(),
+                _ => harvest.to_string(),
+            };
+            let cells: Vec<String> = self.columns.iter().map(|name| self.cell(name, i, &harvest)).collect();
             lines.push(self.line(&cells));
         }
         if self.comments {
@@ -121,7 +131,7 @@ impl Dress {
     }
 
     /// A frame's cell: cells that are not read may hold anything, blanks too where these do not part them.
-    fn cell(&self, column: &str, i: usize, harvest: u32) -> String {
+    fn cell(&self, column: &str, i: usize, harvest: &str) -> String {
         let parted_by_blanks = self.separator.trim().is_empty();
         match column {
             "harvest" => harvest.to_string(),
@@ -182,6 +192,43 @@ fn text_after_words_is_the_same_request() {
                 );
             }
         }
+        Ok(())
+    });
+}
+
+/// What spreadsheets and people write where there is no whole number of 32 bits.
+const NO_NUMBERS: [&str; 13] = [
+    "",
+    "#N/A",
+    "###",
+    "#REF!",
+    "1,000",
+    "1 000",
+    "1.5",
+    "1,5",
+    "-3",
+    "+3",
+    "1e3",
+    "six",
+    "4294967296",
+];
+
+#[test]
+fn a_harvest_that_is_no_number_is_a_fault_in_every_dress() {
+    let cases = (requests(), dresses(), any::<Index>(), select(NO_NUMBERS.to_vec()));
+    check(600, cases, |(request, dress, frame, other)| {
+        prop_assume!(!request.harvest.is_empty());
+        // A table of one column without its number has an empty line there.
+        prop_assume!(!other.is_empty() || dress.columns.len() > 1);
+        let frame = frame.index(request.harvest.len());
+        let text = dress.write_with(&request, Some((frame, other)));
+        let ran = Folder::new().run_with(&["text", "-"], text.as_bytes());
+        prop_assert_eq!((ran.status, ran.text()), (Some(2), String::new()), "{}", text);
+        let lines = text.split(dress.line_end).collect::<Vec<_>>();
+        let last = lines.iter().rposition(|line| !line.is_empty()).unwrap_or_default();
+        let expected = last - (request.harvest.len() - 1 - frame) + 1;
+        let (line, _) = place_of(&ran.err).unwrap_or_default();
+        prop_assert_eq!(line, expected, "{}", ran.err);
         Ok(())
     });
 }
