@@ -44,12 +44,11 @@ fn record(harvest: u32, used: u32, frame: Option<u32>, journal: &JournalArgument
         )));
     }
     let done = journal.record(harvest, used);
-    let shift = journal.running.shift;
     // Others need not wait until what is told here is read.
-    drop(journal);
+    let running = journal.close();
     notice.into_iter().for_each(tell);
     done?;
-    answer(&format!("recorded frame {next}"), &shift)
+    answer(&format!("recorded frame {next}"), &running.shift)
 }
 
 /// Answers a call that is in the journal; where the answer cannot be printed, the failure says what is done all the same.
@@ -61,7 +60,8 @@ fn answer(done: &str, shift: &Shift) -> Result<(), Failure> {
 /// Opens a journal to look at it, and tells of a torn line.
 fn look(journal: &JournalArguments) -> Result<Running, Failure> {
     let journal = Journal::open(&journal.journal, Purpose::Look)?;
-    let (notice, running) = (journal.notice(), journal.running);
+    let notice = journal.notice();
+    let running = journal.close();
     notice.into_iter().for_each(tell);
     Ok(running)
 }

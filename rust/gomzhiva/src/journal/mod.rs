@@ -85,14 +85,22 @@ impl Journal {
             torn: None,
         };
         journal.keep(first);
+        let mut last = 1;
         for (line, number) in lines {
-            // No journal has more bytes than are read, and what is not read may be anything.
-            if bytes.len() > MOST_BYTES && journal.is_torn(line) {
-                return Err(damaged(path, number, "the end of the journal", line));
-            }
             journal.run_again(line, number)?;
+            last = number;
+        }
+        // No journal has so many bytes, and what was not read may be anything.
+        if bytes.len() > MOST_BYTES {
+            let fault = format!("the end of the journal is expected, found more than {MOST_BYTES} bytes");
+            return Err(Failure::Fault(format!("{}:{last}:1: {fault}", path.display())));
         }
         Ok(journal)
+    }
+
+    /// Unlocks the journal, and gives the shift that its calls lead to.
+    pub fn close(self) -> Running {
+        self.running
     }
 
     /// Counts a whole line.
