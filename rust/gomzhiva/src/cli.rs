@@ -1,7 +1,7 @@
 //! The program's arguments and their help.
 
 use crate::files::Place;
-use crate::request::RequestArguments;
+use crate::request::{whole_number, RequestArguments};
 use clap::{Args, Parser, Subcommand};
 
 /// Plans the energy of a solar-powered blending room: one list of budgets, a number of watt-hours for each frame,
@@ -18,7 +18,7 @@ Example:
   gomzhiva plan examples/day.txt
 
 A request as text:
-  capacity 5       # watt-hours; '#' begins a comment
+  capacity 5       # watt-hours; '# ' begins a comment
   start 2
   end 2
   harvest          # from here on a line for each frame
@@ -147,13 +147,13 @@ pub enum ShiftCommand {
     #[command(after_help = "Example:\n  gomzhiva shift record 1 3 --journal shift.journal")]
     Record {
         /// The harvest of the frame in Wh
-        #[arg(allow_negative_numbers = true)]
+        #[arg(allow_negative_numbers = true, value_parser = whole_number)]
         harvest: u32,
         /// The use of the frame in Wh
-        #[arg(value_name = "USE", allow_negative_numbers = true)]
+        #[arg(value_name = "USE", allow_negative_numbers = true, value_parser = whole_number)]
         used: u32,
         /// The frame that is meant: if it is not the next one, nothing is recorded
-        #[arg(long, allow_negative_numbers = true)]
+        #[arg(long, allow_negative_numbers = true, value_parser = whole_number)]
         frame: Option<u32>,
         #[command(flatten)]
         journal: JournalArguments,
@@ -191,8 +191,8 @@ impl Command {
             Command::Plan(PlanArguments { report, .. }) | Command::Trace(TraceArguments { report, .. }) => {
                 report.table.csv || report.draws_on_standard_output()
             }
-            Command::Words { output, .. } | Command::Text { output, .. } => output.output.is_standard(),
-            Command::Shift(ShiftCommand::Chart { output, .. }) => output.output.is_standard(),
+            Command::Words { output, .. } | Command::Text { output, .. } => output.output.is_standard_output(),
+            Command::Shift(ShiftCommand::Chart { output, .. }) => output.output.is_standard_output(),
             Command::Shift(ShiftCommand::Plan { table, .. } | ShiftCommand::Show { table, .. }) => table.csv,
             _ => false,
         }
@@ -201,6 +201,6 @@ impl Command {
 
 impl ReportArguments {
     pub fn draws_on_standard_output(&self) -> bool {
-        self.chart.as_ref().map_or(false, Place::is_standard)
+        self.chart.as_ref().map_or(false, Place::is_standard_output)
     }
 }

@@ -26,44 +26,26 @@ impl From<OsString> for Place {
     }
 }
 
+const STANDARD_INPUT: &str = "/dev/stdin";
+const STANDARD_OUTPUTS: [&str; 2] = ["/dev/stdout", "/dev/stderr"];
+
 impl Place {
-    /// Standard input or output, also by the names that stand for what these are connected to.
-    pub fn is_standard(&self) -> bool {
-        ["-", "/dev/stdin", "/dev/stdout"]
-            .iter()
-            .any(|name| self.0.as_os_str() == *name)
+    /// Standard input or standard output, by what it is used for.
+    fn is_dash(&self) -> bool {
+        self.0.as_os_str() == "-"
+    }
+
+    pub fn is_standard_input(&self) -> bool {
+        self.is_dash() || self.0.as_os_str() == STANDARD_INPUT
+    }
+
+    pub fn is_standard_output(&self) -> bool {
+        self.is_dash() || self.0.as_os_str() == STANDARD_OUTPUTS[0]
     }
 
     /// The file that it names.
     pub fn file(&self) -> Option<&Path> {
-        (!self.is_standard()).then_some(self.0.as_path())
-    }
-
-    /// The file that it is or stands for.
-    fn stands_for(&self, standard: &str) -> Option<(u64, u64)> {
-        let known = fs::metadata(self.file().unwrap_or_else(|| Path::new(standard))).ok()?;
-        known.is_file().then(|| identity(&known))
-    }
-
-    /// Refuses an output that is one of the inputs, whose place it would take, or another name of a standard output.
-    pub fn is_none_of(&self, inputs: &[&Place]) -> Result<(), Failure> {
-        let mut others: Vec<_> = inputs.iter().map(|input| input.stands_for("/dev/stdin")).collect();
-        if !self.is_standard() {
-            others.extend(["/dev/stdout", "/dev/stderr"].map(|name| Place(name.into()).stands_for(name)));
-        }
-        let own = self.stands_for("/dev/stdout");
-        if own.is_some() && others.contains(&own) {
-            let name = self.name("standard output");
-            return Err(Failure::Fault(format!(
-                "gomzhiva: {name}: an output that is neither an input nor another output is expected; nothing is written"
-            )));
-        }
-        Ok(())
-    }
-
-    /// What messages call it as an input.
-    pub fn input_name(&self) -> String {
-        self.name("standard input")
+        (!self.is_dash()).then_some(self.0.as_path())
     }
 
     /// As it was given.
@@ -71,17 +53,37 @@ impl Place {
         self.0.display().to_string()
     }
 
-    fn name(&self, standard: &str) -> String {
-        if self.is_standard() {
-            standard.to_string()
+    /// What messages call it as an input.
+    pub fn input_name(&self) -> String {
+        if self.is_standard_input() {
+            "standard input".to_string()
         } else {
             self.given()
         }
     }
 
-    /// The bytes of an input.
+    /// What messages call it as an output.
+    fn output_name(&self) -> String {
+        if self.is_standard_output() {
+            "standard output".to_string()
+        } else {
+            self.given()
+        }
+    }
+
+    fn as_input(&self) -> &Path {
+        self.file().unwrap_or_else(|| Path::new(STANDARD_INPUT))
+    }
+
+    /// The bytes of an input, which must not be what is printed to: that would be read, or grow, or be lost.
     pub fn read(&self) -> Result<Vec<u8>, Failure> {
-        let bytes = if self.is_standard() {
+        if is_one_of(self.as_input(), &[Path::new(STANDARD_OUTPUTS[0])]) {
+            let name = self.input_name();
+            return Err(Failure::Fault(format!(
+                "gomzhiva: {name}: an input that is no output is expected"
+            )));
+        }
+        let bytes = if self.is_standard_input() {
             streams::read(READ_BYTES)
         } else {
             read_file(&self.0)
@@ -89,15 +91,47 @@ impl Place {
         bytes.map_err(|error| Failure::system(self.input_name(), &error))
     }
 
+    /// Refuses an output file that is one of the inputs, whose place it would take, or another name of a standard output.
+    pub fn is_none_of(&self, inputs: &[&Place]) -> Result<(), Failure> {
+        let mut others: Vec<&Path> = inputs.iter().map(|input| input.as_input()).collect();
+        others.extend(STANDARD_OUTPUTS.iter().map(Path::new));
+        if !self.is_standard_output() && is_one_of(&self.0, &others) {
+            return Err(Failure::Fault(format!(
+                "gomzhiva: {}: an output that is neither an input nor another output is expected; nothing is written",
+                self.given()
+            )));
+        }
+        Ok(())
+    }
+
     /// Writes an output.
     pub fn write(&self, bytes: &[u8]) -> Result<(), Failure> {
-        let written = if self.is_standard() {
+        let written = if self.is_standard_output() {
             streams::write(bytes)
         } else {
             replace(&self.0, bytes)
         };
-        written.map_err(|error| Failure::system(self.name("standard output"), &error))
+        written.map_err(|error| Failure::system(self.output_name(), &error))
     }
+}
+
+/// A regular file that has one of these names too.
+fn is_one_of(path: &Path, others: &[&Path]) -> bool {
+    let known = |path: &Path| fs::metadata(path).ok().filter(Metadata::is_file);
+    let own = known(path).map(|known| identity(&known));
+    let is_own = |other: &&Path| own.is_some() && known(other).map(|known| identity(&known)) == own;
+    others.iter().any(is_own)
+}
+
+/// Whether an output, standard output if none is named, is a regular file that begins with these bytes.
+pub fn output_begins_with(output: Option<&Path>, beginning: &[u8]) -> bool {
+    let path = output.unwrap_or_else(|| Path::new(STANDARD_OUTPUTS[0]));
+    let begins = || -> io::Result<bool> {
+        let mut bytes = vec![0; beginning.len()];
+        File::open(path)?.read_exact(&mut bytes)?;
+        Ok(bytes == beginning)
+    };
+    fs::metadata(path).map_or(false, |known| known.is_file()) && begins().unwrap_or(false)
 }
 
 /// Prints text for people on standard output.

@@ -7,7 +7,6 @@ use energy::{Energy, Figures, LISTING_BYTES, MAX_CAPACITY, MAX_FILE_BYTES, MAX_F
 use evidence::reference::Reference;
 use proptest::prelude::*;
 use std::fs;
-use std::process::Command;
 
 const TABLE: &str = "\
 frame  harvest  budget  charge
@@ -338,6 +337,8 @@ fn bad_usage_is_told_on_standard_error() {
         &["plan", "day.txt", "--size", "5"],
         &["plan", "day.txt", "--capacity", "-1"],
         &["plan", "day.txt", "--capacity", "4294967296"],
+        &["plan", "day.txt", "--capacity", "+5"],
+        &["plan", "day.txt", "--capacity", ""],
         &["plan", "day.txt", "--listing", "--csv"],
         &["plan", "day.txt", "--listing", "--chart", "x.svg"],
         &["trace", "day.txt"],
@@ -379,15 +380,26 @@ fn an_output_is_none_of_the_inputs() {
     }
     // By whatever name: the input of a pipe, or what standard output is connected to.
     for (command, output) in [
-        ("\"$0\" words - day.txt <day.txt", "day.txt"),
-        ("\"$0\" trace day.txt - --chart budgets <budgets", "budgets"),
-        ("\"$0\" text day.txt >>day.txt", "standard output"),
-        ("\"$0\" plan day.txt --chart log >>log", "log"),
+        ("words - day.txt <day.txt", "day.txt"),
+        ("trace day.txt - --chart budgets <budgets", "budgets"),
+        ("plan day.txt --chart log >>log", "log"),
     ] {
-        let mut shell = Command::new("sh");
-        shell.args(["-c", command, env!("CARGO_BIN_EXE_gomzhiva")]);
-        let ran = Ran::from(shell.current_dir(folder.path()).output().expect("a shell"));
+        let ran = folder.shell(&format!("gomzhiva {command}"));
         assert_eq!((ran.status, ran.err), (Some(2), not_an_output(output)), "{command}");
+    }
+    for command in [
+        "text day.txt",
+        "plan day.txt --csv",
+        "needed - <day.txt",
+        "trace day.words day.txt",
+    ] {
+        let ran = folder.shell(&format!("gomzhiva {command} >>day.txt"));
+        assert_eq!(ran.status, Some(2), "{command}");
+        assert!(
+            ran.err.ends_with(": an input that is no output is expected\n"),
+            "{}",
+            ran.err
+        );
     }
     let kept = ["day.txt", "day.words", "budgets", "log"].map(|name| folder.read(name));
     assert_eq!(kept, [DAY.into(), day_words(), b"4 3 3 2 4 4".to_vec(), Vec::new()]);

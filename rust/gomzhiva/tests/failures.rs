@@ -51,14 +51,7 @@ const PRINTING: [&[&str]; 15] = [
 
 /// Runs the program by a shell, with a redirection.
 fn redirected(folder: &Folder, arguments: &[&str], redirection: &str) -> Ran {
-    let mut shell = Command::new("sh");
-    shell.args([
-        "-c",
-        &format!("exec \"$0\" \"$@\" {redirection}"),
-        env!("CARGO_BIN_EXE_gomzhiva"),
-    ]);
-    shell.args(arguments).current_dir(folder.path()).stdin(Stdio::null());
-    shell.output().expect("a shell").into()
+    folder.shell(&format!("gomzhiva {} {redirection}", arguments.join(" ")))
 }
 
 /// Runs the program with an output that nobody reads.
@@ -189,18 +182,11 @@ fn an_output_file_is_whole_or_as_it_was() {
 fn a_limit_on_the_size_of_files_is_a_failed_write() {
     let folder = folder_of_the_day();
     let (names, journal) = (folder.names(), folder.read("journal"));
-    let calls: [(&[&str], &str); 2] = [
-        (&["words", "day.txt", "out"], "out: File too large"),
-        (
-            &["shift", "record", "1", "3", "--journal", "journal"],
-            "journal: File too large",
-        ),
-    ];
-    for (arguments, message) in calls {
-        let mut shell = Command::new("sh");
-        shell.args(["-c", "ulimit -f 0; exec \"$0\" \"$@\"", env!("CARGO_BIN_EXE_gomzhiva")]);
-        shell.args(arguments).current_dir(folder.path()).stdin(Stdio::null());
-        assert_failed(&shell.output().expect("a shell").into(), message);
+    for (command, message) in [
+        ("words day.txt out", "out: File too large"),
+        ("shift record 1 3 --journal journal", "journal: File too large"),
+    ] {
+        assert_failed(&folder.shell(&format!("ulimit -f 0; gomzhiva {command}")), message);
         assert_eq!(
             (folder.names(), folder.read("journal")),
             (names.clone(), journal.clone())

@@ -114,22 +114,30 @@ fn a_rest_that_is_short_says_by_how_much() {
 }
 
 #[test]
-fn a_picture_does_not_take_the_journals_place() {
+fn nothing_takes_a_journals_place() {
     let folder = folder_of_a_shift();
     let before = folder.read("journal");
     folder.write("day.txt", DAY);
-    for arguments in [
-        &["shift", "chart", "journal", "--journal", "./journal"][..],
-        &["plan", "day.txt", "--chart", "journal"],
-        &["words", "day.txt", "journal"],
-        &["text", "day.txt", "journal"],
+    for command in [
+        "shift chart journal --journal ./journal",
+        "plan day.txt --chart journal",
+        "words day.txt journal",
+        "text day.txt journal",
+        "shift show --journal journal >>journal",
+        "shift record 0 0 --journal journal >>journal",
+        "plan day.txt >>journal",
+        "text day.txt /dev/stdout >>journal",
     ] {
-        let ran = folder.run(arguments);
+        let ran = folder.shell(&format!("gomzhiva {command}"));
+        assert!(
+            ran.err.ends_with(" is expected; nothing is written\n"),
+            "{command}: {}",
+            ran.err
+        );
         assert_eq!(
             (ran.status, folder.read("journal")),
             (Some(2), before.clone()),
-            "{}",
-            ran.err
+            "{command}"
         );
     }
 }

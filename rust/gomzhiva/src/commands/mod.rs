@@ -13,6 +13,7 @@ use crate::request::{read_budgets, RequestArguments};
 use energy::{Energy, Linked};
 
 pub fn run(command: &Command) -> Result<(), Failure> {
+    is_no_journal(None)?;
     match command {
         Command::Plan(arguments) => plan::run(arguments),
         Command::Needed { request } => needed(request),
@@ -43,7 +44,7 @@ fn text(request: &RequestArguments, output: &OutputArguments) -> Result<(), Fail
 /// Writes an output that was made of these inputs, and takes the place of none of them.
 fn write(output: &Place, inputs: &[&Place], bytes: &[u8]) -> Result<(), Failure> {
     output.is_none_of(inputs)?;
-    is_no_journal(output)?;
+    is_no_journal(output.file())?;
     output.write(bytes)
 }
 

@@ -38,12 +38,12 @@ fn record(harvest: u32, used: u32, frame: Option<u32>, journal: &JournalArgument
     let Shift { frames, recorded, .. } = journal.running.shift;
     let next = recorded + 1;
     // After the last frame there is none to compare with, and the library refuses any recording.
-    if let Some(frame) = frame.filter(|&frame| frame != next && recorded < frames) {
-        return Err(Failure::Fault(format!(
+    let done = match frame.filter(|&frame| frame != next && recorded < frames) {
+        None => journal.record(harvest, used),
+        Some(frame) => Err(Failure::Fault(format!(
             "gomzhiva: --frame {frame}: the next frame is {next}; nothing is recorded"
-        )));
-    }
-    let done = journal.record(harvest, used);
+        ))),
+    };
     // Others need not wait until what is told here is read.
     let running = journal.close();
     notice.into_iter().for_each(tell);

@@ -8,7 +8,7 @@ use crate::request::read_budgets;
 use energy::{Refusal, Verdict};
 
 pub fn run(arguments: &TraceArguments) -> Result<(), Failure> {
-    if arguments.request.request.is_standard() && arguments.budgets.is_standard() {
+    if arguments.request.request.is_standard_input() && arguments.budgets.is_standard_input() {
         return Err(Failure::Fault(
             "gomzhiva: the request and the budgets cannot both be standard input".into(),
         ));

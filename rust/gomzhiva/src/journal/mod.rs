@@ -30,25 +30,15 @@ pub struct Journal {
     torn: Option<usize>,
 }
 
-/// Refuses an output that is the journal of a shift, whichever.
-pub fn is_no_journal(output: &Place) -> Result<(), Failure> {
-    const BEGINNING: &[u8] = b"start capacity ";
-    let begins = |path: &Path| {
-        let mut bytes = [0; BEGINNING.len()];
-        let is_file = fs::metadata(path).map_or(false, |known| known.is_file());
-        is_file
-            && File::open(path)
-                .and_then(|mut file| file.read_exact(&mut bytes))
-                .is_ok()
-            && bytes == *BEGINNING
-    };
-    match output.file().filter(|path| begins(path)) {
-        None => Ok(()),
-        Some(path) => Err(Failure::Fault(format!(
-            "gomzhiva: {}: an output that is no shift's journal is expected; nothing is written",
-            path.display()
-        ))),
+/// Refuses an output, standard output if none is named, that is the journal of a shift, whichever.
+pub fn is_no_journal(output: Option<&Path>) -> Result<(), Failure> {
+    if !files::output_begins_with(output, b"start capacity ") {
+        return Ok(());
     }
+    let name = output.map_or("standard output".into(), |path| path.display().to_string());
+    Err(Failure::Fault(format!(
+        "gomzhiva: {name}: an output that is no shift's journal is expected; nothing is written"
+    )))
 }
 
 /// What a journal is opened for.

@@ -20,6 +20,8 @@ pub struct Row<'a> {
 pub struct Line<'a> {
     number: usize,
     /// What stands before the comment.
+    before: &'a str,
+    /// The same without the blanks between it and the comment.
     content: &'a str,
     /// The first word of a comment without a blank behind its `#`: `#noon`, or the `#N/A` of a spreadsheet.
     doubtful: Option<Cell<'a>>,
@@ -50,15 +52,20 @@ pub fn count_lines(plain: &str) -> usize {
 
 impl<'a> Line<'a> {
     fn new(number: usize, line: &'a str) -> Line<'a> {
-        let (content, comment) = line.split_at(comment_in(line));
+        let (before, comment) = line.split_at(comment_in(line));
         let is_doubtful = comment.chars().nth(1).map_or(false, |c| !is_blank(c));
         let word = Cell {
-            column: content.chars().count() + 1,
+            column: before.chars().count() + 1,
             text: comment.split(separates).next().unwrap_or_default(),
         };
         Line {
             number,
-            content,
+            before,
+            content: if comment.is_empty() {
+                before
+            } else {
+                before.trim_end_matches(is_blank)
+            },
             doubtful: is_doubtful.then_some(word),
         }
     }
@@ -76,19 +83,43 @@ impl<'a> Line<'a> {
         self.content.chars().all(is_blank)
     }
 
-    /// A double quote that is not closed.
-    pub fn has_open_quote(&self) -> bool {
-        self.content.matches('"').count() % 2 == 1
+    /// A double quote that is neither the beginning nor the end of a cell, nor one of two in a quoted cell; or the place of
+    /// one that is missing. Cells stand between separators of any kind if none is given.
+    pub fn stray_quote(&self, separator: Option<Separator>) -> Option<Row<'a>> {
+        let quotes = self.content.match_indices('"');
+        let stray = quotes.zip([true, false].into_iter().cycle()).find(|((at, _), opens)| {
+            let (before, behind) = (&self.content[..*at], &self.content[at + 1..]);
+            if *opens {
+                !before.ends_with('"') && !ends_cells(before, separator)
+            } else {
+                !behind.starts_with('"') && !begins_cells(behind, separator)
+            }
+        });
+        if let Some(((at, text), _)) = stray {
+            let column = self.content[..at].chars().count() + 1;
+            return Some(self.row(vec![Cell { column, text }]));
+        }
+        let is_open = self.content.matches('"').count() % 2 == 1;
+        is_open.then(|| self.row(Vec::new()))
     }
 
-    /// The cells between separators of any kind, however many.
+    /// The cells between separators of any kind, however many, that are not empty.
     pub fn words(&self) -> Row<'a> {
-        self.row(filled(pieces(self.content, separates)))
+        let words = pieces(self.content, separates).into_iter().map(bare);
+        self.row(words.filter(|word| !word.text.is_empty()).collect())
     }
 
     /// What parts the cells of a table with this line of names: semicolons if it has any, else commas, else tabs, else blanks.
     pub fn separator(&self) -> Separator {
-        let has = |&separator: &char| self.content.trim_end().contains(unquoted(|c| c == separator));
+        // A tab behind several names is a blank that nobody sees; behind one name it parts it from a column without a name.
+        let one = self.words().cells.len() == 1;
+        let content = self.content.trim_start_matches(is_blank);
+        let content = if one {
+            content
+        } else {
+            content.trim_end_matches(is_blank)
+        };
+        let has = |&separator: &char| content.contains(unquoted(|c| c == separator));
         [';', ',', '\t']
             .into_iter()
             .find(has)
@@ -97,19 +128,22 @@ impl<'a> Line<'a> {
 
     /// The cells of a table's line; between two characters that part cells there is one, if an empty one.
     pub fn cells(&self, separator: Separator) -> Row<'a> {
-        let content = self.content.trim_end_matches(is_blank);
+        let is_filled = |piece: &Cell| !piece.text.is_empty();
         self.row(match separator {
-            Separator::Character(separator) => pieces(content, |c| c == separator).into_iter().map(bare).collect(),
-            Separator::Blanks => filled(pieces(content, is_blank)),
+            Separator::Character(separator) => pieces(self.content, |c| c == separator).into_iter().map(bare).collect(),
+            Separator::Blanks => {
+                let pieces = pieces(self.content, is_blank).into_iter();
+                pieces.filter(is_filled).map(bare).collect()
+            }
         })
     }
 
-    /// Characters that part cells, and nothing between them.
+    /// Characters that part cells, and nothing in these.
     pub fn is_empty_row(&self, separator: Separator) -> bool {
         match separator {
-            Separator::Character(separator) => {
-                let empty = self.content.chars().all(|c| is_blank(c) || c == separator);
-                empty && self.content.contains(separator)
+            Separator::Character(character) => {
+                let cells = self.cells(separator).cells;
+                self.content.contains(character) && cells.iter().all(|cell| cell.text.is_empty())
             }
             Separator::Blanks => false,
         }
@@ -124,12 +158,31 @@ impl<'a> Line<'a> {
     pub fn doubtful_cell(&self, separator: Separator) -> Option<Row<'a>> {
         let begins_cell = match separator {
             Separator::Blanks => self.is_blank(),
-            Separator::Character(separator) => {
-                let before = self.content.trim_end_matches(|c| is_blank(c) && c != separator);
-                before.is_empty() || before.ends_with(separator)
-            }
+            Separator::Character(_) => ends_cells(self.before, Some(separator)),
         };
         self.doubtful().filter(|_| begins_cell)
+    }
+}
+
+/// Whether a cell ends with the beginning of a line, so that another begins behind it.
+fn ends_cells(before: &str, separator: Option<Separator>) -> bool {
+    match separator {
+        Some(Separator::Character(separator)) => {
+            let before = before.trim_end_matches(|c| is_blank(c) && c != separator);
+            before.is_empty() || before.ends_with(separator)
+        }
+        _ => before.is_empty() || before.ends_with(separates),
+    }
+}
+
+/// Whether a cell ends before the rest of a line.
+fn begins_cells(behind: &str, separator: Option<Separator>) -> bool {
+    match separator {
+        Some(Separator::Character(separator)) => {
+            let behind = behind.trim_start_matches(|c| is_blank(c) && c != separator);
+            behind.is_empty() || behind.starts_with(separator)
+        }
+        _ => behind.is_empty() || behind.starts_with(separates),
     }
 }
 
@@ -154,12 +207,6 @@ fn pieces(line: &str, separates: impl Fn(char) -> bool) -> Vec<Cell<'_>> {
         column += text.chars().count() + 1;
     }
     pieces
-}
-
-/// The cells of those pieces that have anything, if only two quotes.
-fn filled(pieces: Vec<Cell<'_>>) -> Vec<Cell<'_>> {
-    let filled = pieces.into_iter().filter(|piece| !piece.text.is_empty());
-    filled.map(bare).collect()
 }
 
 /// A piece without the blanks around it, and the double quotes around its text.
@@ -227,7 +274,10 @@ mod tests {
             ("time,harvest", Character(',')),
             ("time, harvest;", Character(';')),
             ("time\tharvest", Character('\t')),
+            ("time harvest\t# a", Blanks),
+            ("harvest\t", Character('\t')),
             ("time harvest\t", Blanks),
+            ("\tharvest", Blanks),
             ("\"time, day\" harvest # a; b", Blanks),
             ("harvest", Blanks),
         ] {
@@ -241,7 +291,8 @@ mod tests {
         assert_eq!(parted("1,5;6", Character(';')), ["1,5", "6"]);
         assert_eq!(parted("1,5;", Character(';')), ["1,5", ""]);
         assert_eq!(parted("12,30", Character(';')), ["12,30"]);
-        assert_eq!(parted("06:00\t\t5\t", Character('\t')), ["06:00", "", "5"]);
+        assert_eq!(parted("06:00\t\t5\t", Character('\t')), ["06:00", "", "5", ""]);
+        assert_eq!(parted("06:00\t5\t# noon", Character('\t')), ["06:00", "5"]);
         assert_eq!(parted("  , 7 ,\"\",", Character(',')), ["", "7", "", ""]);
         assert_eq!(parted(" 06:00 \t \"\" 6", Blanks), ["06:00", "", "6"]);
         assert_eq!(parted("1,5", Blanks), ["1,5"]);
@@ -254,9 +305,20 @@ mod tests {
         assert_eq!(parted("\"1,000\" 2", Blanks), ["1,000", "2"]);
         let line = "\"lot #3; noon\" ; \" 6 \" # none";
         assert_eq!(parted(line, Character(';')), ["lot #3; noon", "6"]);
-        assert_eq!(parted("\"6\"7", Blanks), ["\"6\"7"]);
-        assert!(Line::new(1, "\"06:00,6").has_open_quote());
-        assert!(!Line::new(1, "6 # 5\"").has_open_quote());
+        let stray_in = |line, separator| {
+            let row = Line::new(1, line).stray_quote(separator);
+            row.map(|row| row.cells.first().map_or(row.end, |cell| cell.column))
+        };
+        let stray = |line| stray_in(line, None);
+        for (line, column) in [("5\",6,5\",7", 2), ("6 \"7\"8", 5), ("\"06:00,6", 9), ("6\"", 2)] {
+            assert_eq!(stray(line), Some(column), "{line:?}");
+        }
+        assert_eq!(stray_in("a \"b;6;c\" d;7", Some(Character(';'))), Some(3));
+        assert_eq!(stray_in("\"b;6\" d;7", Some(Character(';'))), Some(5));
+        assert_eq!(stray_in(" \"b;6\" ;\t\"7\"", Some(Character(';'))), None);
+        for line in ["6 # 5\"", "\"6\",\"\"", "\"6h5'30\"\"\",7", "\"a \"\"b\"\" c\" 7"] {
+            assert_eq!(stray(line), None, "{line:?}");
+        }
     }
 
     #[test]

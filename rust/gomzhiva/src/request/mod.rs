@@ -18,14 +18,19 @@ pub struct RequestArguments {
     /// The request: text, CSV or a word file; - is standard input
     pub request: Place,
     /// The capacity in Wh, in place of the request's
-    #[arg(long, value_name = "WH", allow_negative_numbers = true)]
+    #[arg(long, value_name = "WH", allow_negative_numbers = true, value_parser = whole_number)]
     pub capacity: Option<u32>,
     /// The start charge in Wh, in place of the request's
-    #[arg(long, value_name = "WH", allow_negative_numbers = true)]
+    #[arg(long, value_name = "WH", allow_negative_numbers = true, value_parser = whole_number)]
     pub start: Option<u32>,
     /// The end charge in Wh, in place of the request's
-    #[arg(long, value_name = "WH", allow_negative_numbers = true)]
+    #[arg(long, value_name = "WH", allow_negative_numbers = true, value_parser = whole_number)]
     pub end: Option<u32>,
+}
+
+/// A whole number as an argument.
+pub fn whole_number(text: &str) -> Result<u32, String> {
+    sheet::whole_number(text).ok_or_else(|| format!("a whole number up to {} is expected", u32::MAX))
 }
 
 /// A request that is whole.

@@ -74,7 +74,7 @@ pub fn parse(text: &str) -> Result<Sheet, Fault> {
     };
     let mut lines = lines(&text);
     for line in lines.by_ref() {
-        closed(&line)?;
+        closed(&line, None)?;
         if let Some(which) = figure_of(&line) {
             put_figure(&mut sheet, which, &line.words())?;
         } else if !line.words().cells.is_empty() {
@@ -86,20 +86,22 @@ pub fn parse(text: &str) -> Result<Sheet, Fault> {
     Ok(sheet)
 }
 
-/// A line's double quotes come in pairs.
-fn closed(line: &Line<'_>) -> Result<(), Fault> {
-    if line.has_open_quote() {
-        let Row { line, end, .. } = line.words();
-        let cells = Vec::new();
-        return Err(unlike(&Row { line, end, cells }, 0, "a closing double quote"));
+/// A line's double quotes stand around whole cells.
+fn closed(line: &Line<'_>, separator: Option<Separator>) -> Result<(), Fault> {
+    match line.stray_quote(separator) {
+        None => Ok(()),
+        Some(row) if row.cells.is_empty() => Err(unlike(&row, 0, "a closing double quote")),
+        Some(row) => Err(unlike(&row, 0, "a double quote only before and behind a whole cell")),
     }
-    Ok(())
 }
 
 /// The figure that a line names first.
 fn figure_of(line: &Line<'_>) -> Option<usize> {
-    let first = line.words().cells.first().copied()?;
-    FIGURES.iter().position(|name| first.text.eq_ignore_ascii_case(name))
+    line.words().cells.first().and_then(is_figure)
+}
+
+fn is_figure(cell: &Cell<'_>) -> Option<usize> {
+    FIGURES.iter().position(|name| cell.text.eq_ignore_ascii_case(name))
 }
 
 fn put_figure(sheet: &mut Sheet, which: usize, line: &Row<'_>) -> Result<(), Fault> {
@@ -128,6 +130,7 @@ struct Table {
 /// The table whose columns a line names, each once; their lists are there from now on.
 fn open_table(sheet: &mut Sheet, line: &Line<'_>) -> Result<Table, Fault> {
     let separator = line.separator();
+    closed(line, Some(separator))?;
     let mut names = line.cells(separator);
     let width = names.cells.len();
     while names.cells.last().map_or(false, |last| last.text.is_empty()) {
@@ -171,7 +174,7 @@ fn expected_name(begins: bool, named: &[usize]) -> String {
 fn put_frames<'a>(sheet: &mut Sheet, table: &Table, lines: impl Iterator<Item = Line<'a>>) -> Result<(), Fault> {
     let mut gap = None;
     for line in lines {
-        closed(&line)?;
+        closed(&line, Some(table.separator))?;
         sure(line.doubtful_cell(table.separator))?;
         let row = line.cells(table.separator);
         if line.is_empty_row(table.separator) {
@@ -204,12 +207,12 @@ fn put_frame(sheet: &mut Sheet, table: &Table, row: &Row<'_>) -> Result<(), Faul
             sheet.lists[*list].get_or_insert_with(Vec::new).push(value);
         }
     }
-    if row.cells.len() > table.width && table.separator != Separator::Blanks {
-        return Err(unlike(
-            row,
-            table.width,
-            "no more separators than in the table's first line",
-        ));
+    if row.cells.len() > table.width {
+        let expected = match table.separator {
+            Separator::Blanks => END_OF_LINE,
+            Separator::Character(_) => "no more separators than in the table's first line",
+        };
+        return Err(unlike(row, table.width, expected));
     }
     let behind = |(i, cell): &(usize, &Cell)| *i >= columns.len() && !cell.text.is_empty();
     match row.cells.iter().enumerate().find(behind) {
@@ -220,28 +223,33 @@ fn put_frame(sheet: &mut Sheet, table: &Table, row: &Row<'_>) -> Result<(), Faul
 
 /// Reads bare numbers parted by blanks, however many stand in a line; none where the text is empty or begins with a name.
 pub fn bare_numbers(text: &str) -> Result<Option<Vec<u32>>, Fault> {
+    let text = plain(text);
+    let first = lines(&text).find_map(|line| line.words().cells.first().copied());
+    if first.map_or(true, |first| is_figure(&first).is_some() || column_of(&first).is_some()) {
+        return Ok(None);
+    }
     let mut list = Vec::new();
-    for line in lines(&plain(text)) {
-        let names = |cell: &Cell| column_of(cell).is_some();
-        let is_named = figure_of(&line).is_some() || line.words().cells.first().map_or(false, names);
-        if list.is_empty() && is_named {
-            return Ok(None);
-        }
+    for line in lines(&text) {
+        closed(&line, Some(Separator::Blanks))?;
         sure(line.doubtful())?;
         let row = line.cells(Separator::Blanks);
         for i in 0..row.cells.len() {
             list.push(number(&row, i)?);
         }
     }
-    Ok((!list.is_empty()).then_some(list))
+    Ok(Some(list))
 }
 
-/// The whole number in a line's cell, digits alone.
+/// The whole number in a line's cell.
 fn number(line: &Row<'_>, i: usize) -> Result<u32, Fault> {
     let text = line.cells.get(i).map_or("", |cell| cell.text);
-    let digits = !text.is_empty() && text.bytes().all(|b| b.is_ascii_digit());
-    let value = if digits { text.parse().ok() } else { None };
-    value.ok_or_else(|| unlike(line, i, &format!("a whole number up to {}", u32::MAX)))
+    whole_number(text).ok_or_else(|| unlike(line, i, &format!("a whole number up to {}", u32::MAX)))
+}
+
+/// The whole number of 32 bits that a text is, digits alone.
+pub fn whole_number(text: &str) -> Option<u32> {
+    let digits = text.bytes().all(|b| b.is_ascii_digit());
+    digits.then(|| text.parse().ok())?
 }
 
 /// A line has no more cells than these.
@@ -302,6 +310,8 @@ mod tests {
         assert_eq!(said("harvest\n"), (None, None, None, vec![]));
         assert_eq!(said("#capacity 7\ntime\tharvest #a\n\"6 h\"\t6 #b\n# noon\n").3, [6]);
         assert_eq!(said("frame harvest\n1 6 #noon\n\n2 4\n").3, [6, 4]);
+        assert_eq!(said("\"\"\n\"harvest\",\"\"\n\"6\",\"\"\n\"\",\"\"\n").3, [6]);
+        assert_eq!(said("\"capacity\",\"5\",\"\"\n\tharvest\n\t6\n").3, [6]);
     }
 
     #[test]
@@ -368,6 +378,13 @@ mod tests {
             fault("time,harvest\n\"06:00,6\n"),
             "2:9: a closing double quote is expected, found the end of the line"
         );
+        let quote = "a double quote only before and behind a whole cell is expected, found '\\\"'";
+        assert_eq!(fault("time,harvest,use,charge\n5\",6,5\",7\n"), format!("2:2: {quote}"));
+        assert_eq!(
+            fault("harvest\n0 \"\"\n"),
+            "2:3: the end of the line is expected, found nothing"
+        );
+        assert_eq!(fault("harvest\t\n6\t\n\t7\n"), format!("3:1: {number} nothing"));
         let names = "a figure (capacity, start, end) or a column (harvest, budget, frame, time, charge, use)";
         assert_eq!(fault("harvst\n6"), format!("1:1: {names} is expected, found 'harvst'"));
         assert_eq!(fault("5\n6"), format!("1:1: {names} is expected, found '5'"));
@@ -397,7 +414,7 @@ mod tests {
     fn bare_lists() {
         let list = bare_numbers("# today\n4 4\t4\n# none\n4  2 2 # two");
         assert_eq!(list, Ok(Some(vec![4, 4, 4, 4, 2, 2])));
-        for text in ["budget\n4", "Budget,time\n4", "capacity 5", " # none", ""] {
+        for text in ["budget\n4", "#today\n,,\nBudget,time\n4", "capacity 5", " # none", ""] {
             assert_eq!(bare_numbers(text), Ok(None), "{text:?}");
         }
         for (text, place) in [
@@ -406,6 +423,7 @@ mod tests {
             ("1,000", "1:1"),
             ("#N/A\n4", "1:1"),
             ("4\t#N/A\t3", "1:3"),
+            ("\"4 5", "1:5"),
         ] {
             let fault = bare_numbers(text).unwrap_err();
             assert_eq!(format!("{}:{}", fault.line, fault.column), place, "{text:?}");

@@ -154,6 +154,15 @@ impl Folder {
         library
     }
 
+    /// Runs a shell in the folder, in which `gomzhiva` is the program.
+    pub fn shell(&self, script: &str) -> Ran {
+        let script = format!("gomzhiva() {{ \"$0\" \"$@\"; }}\n{script}");
+        let mut shell = Command::new("sh");
+        shell.args(["-c", &script, env!("CARGO_BIN_EXE_gomzhiva")]);
+        shell.current_dir(self.path()).stdin(Stdio::null());
+        shell.output().expect("a shell").into()
+    }
+
     /// Runs the program as somebody whom permissions bind, as they do not bind root.
     pub fn run_unprivileged(&self, arguments: &[&str]) -> Ran {
         const NOBODY: u32 = 65534;
