@@ -587,8 +587,14 @@ fn nobody_waits_for_an_answer_that_is_not_read() {
     while lines() < 4 {
         thread::sleep(Duration::from_millis(5));
     }
-    assert_eq!(folder.run(&SHOW).status, Some(0));
+    let mut command = folder.command(&SHOW);
+    let mut look = command.stdout(Stdio::null()).spawn().expect("the program starts");
+    let ended = (0..2000).find_map(|_| {
+        thread::sleep(Duration::from_millis(5));
+        look.try_wait().expect("a child")
+    });
     assert_eq!(unread.try_wait().expect("a child"), None, "its answer is not read yet");
+    assert_eq!(ended.and_then(|status| status.code()), Some(0), "the journal is free");
     drop((reader, notices_reader));
     unread.wait().expect("the program ends");
 }
