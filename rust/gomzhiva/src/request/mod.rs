@@ -180,7 +180,7 @@ fn from_text(bytes: &[u8], name: String) -> Result<Draft, Failure> {
     })
 }
 
-/// The characters of a text; bytes that are none stand out where they are looked at, and may stand in comments.
+/// The characters of a text; bytes that are none stand out where a cell is read.
 fn text_of(bytes: &[u8], name: &str) -> Result<String, Failure> {
     if bytes.len() > MOST_BYTES {
         return Err(Failure::Fault(format!(

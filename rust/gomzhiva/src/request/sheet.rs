@@ -170,7 +170,7 @@ fn expected_name(begins: bool, named: &[usize]) -> String {
 }
 
 /// Puts the frames of a table into the lists of its columns. A line of empty cells counts for nothing behind the last frame
-/// alone: no frame is passed over.
+/// alone.
 fn put_frames<'a>(sheet: &mut Sheet, table: &Table, lines: impl Iterator<Item = Line<'a>>) -> Result<(), Fault> {
     let mut gap = None;
     for line in lines {
