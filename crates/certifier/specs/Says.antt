@@ -1,0 +1,83 @@
+-- What the functions promise, in terms of their structs.
+use mathlib.Core.Path.{_≡_}
+use mathlib.Core.Bool.{Bool, true, false}
+use mathlib.Core.List.{List}
+use Prim.Native.Nat.{ℕ, _+_, _-_, _≤_, _<_, _^_, min}
+use Rattle.model.specs.Frames.{Frame}
+use Rattle.model.specs.Plan.{framesOf}
+use Rattle.certifier.specs.declared.frame.Rule.{Rule}
+use Rattle.certifier.specs.declared.frame.At.{At}
+use Rattle.certifier.specs.declared.backward.Weight.{Weight}
+use Rattle.certifier.specs.declared.backward.Turned.{Turned}
+use Rattle.certifier.specs.declared.search.Range.{Range}
+use Rattle.certifier.specs.Frame.{drawn, Plain, Read}
+use Rattle.certifier.specs.Course.{Bounded, Certified}
+use Rattle.certifier.specs.Search.{Scanned, Between}
+
+-- the frames of harvests by a rule
+abbrev pub frames : Rule → List ℕ → List Frame
+frames r hs = framesOf (r .capacity) (r .most) hs
+
+-- a rule whose figures are of 32 bits
+pub record Small (r : Rule) : Type 0 where
+  pub capacity-fits : r .capacity < 2 ^ 32
+  pub end-fits : r .end < 2 ^ 32
+  pub most-fits : r .most < 2 ^ 32
+
+-- f is frame i
+abbrev pub ReadAt : Rule → List ℕ → ℕ → At → Type 0
+ReadAt r hs i f = Read (frames r hs) i (f .inflow) (f .ceiling) (f .drain) (f .least) (f .most)
+
+-- f's figures leave room for sums
+abbrev pub PlainAt : At → Type 0
+PlainAt f = Plain (f .inflow) (f .ceiling) (f .drain) (f .least) (f .most)
+
+-- reserves of 32 bits
+pub record Light (w : Weight) : Type 0 where
+  pub low-fits : w .low < 2 ^ 32
+  pub high-fits : w .high < 2 ^ 32
+
+-- from a frame at level l to what w holds: where the levels differ, the store is empty or full
+pub record TurnedAt (l : ℕ) (w : Weight) (t : Turned) : Type 0 where
+  pub rise : l < w .level → (w .low ≡ 0) × (t .low ≡ 0) × (t .high ≡ 0)
+  pub fall : w .level < l → (w .gap ≤ w .high) × (t .low ≡ w .high) × (t .high ≡ w .high)
+  pub same : l ≡ w .level → (t .low ≡ w .low) × (t .high ≡ w .high)
+
+-- v is what frame f at level l, put before what w holds, reserves
+pub record WeighedAt (f : At) (l : ℕ) (w v : Weight) : Type 0 where
+  pub turned : TurnedAt l w (record { low = v .after; high = v .above; broken = false })
+  pub level-is : v .level ≡ l
+  pub rich : f .drain + drawn (f .least) (f .most) l + v .after ≤ f .ceiling
+  pub poor : Bounded l → min (f .ceiling) (f .inflow) ≤ f .drain + drawn (f .least) (f .most) (l + 1) + v .above
+  pub gap-is : v .gap ≡ f .ceiling - f .inflow
+  pub low-is : v .low ≡ min (f .ceiling - f .inflow) (f .drain + drawn (f .least) (f .most) l + v .after - f .inflow)
+  pub high-is : v .high ≡ min (f .ceiling - f .inflow) (f .drain + drawn (f .least) (f .most) (l + 1) + v .above - f .inflow)
+  pub after-fits : v .after < 2 ^ 32
+
+-- the start charge y is at least the reserve of w's level, and not above that of one level more unless the store is full
+pub record StartsAt (y : ℕ) (w : Weight) : Type 0 where
+  pub rich : w .low ≤ y
+  pub poor : Bounded (w .level) → min y (w .gap) ≤ w .high
+
+-- the levels ls are certified for the start charge y; rs is what they reserve after each frame
+abbrev pub CertifiedAt : Rule → List ℕ → ℕ → List ℕ → List ℕ → Type 0
+CertifiedAt r hs y ls rs = Certified (r .end) y (frames r hs) 0 ls rs
+
+-- b is what a frame with a least and a most spends of a at level l, which reserves v after it
+pub record Spent (least most a l v b : ℕ) : Type 0 where
+  pub at-least : l < least → b ≡ least
+  pub at-most : least ≤ l → most ≤ l → b ≡ most
+  pub more : least ≤ l → l < most → l + v < a → b ≡ l + 1
+  pub level : least ≤ l → l < most → a ≤ l + v → b ≡ l
+
+-- whether level l goes on from charge y at frame i on
+abbrev pub ScannedAt : Rule → List ℕ → ℕ → ℕ → ℕ → Bool → Type 0
+ScannedAt r hs i y l ok = Scanned (r .end) (frames r hs) i y l ok
+
+-- g holds the budget of frame f, which has a and comes before frame i
+abbrev pub BetweenAt : Rule → List ℕ → ℕ → At → ℕ → Range → Type 0
+BetweenAt r hs i f a g = Between (r .end) (frames r hs) i a (f .least) (f .most) (g .good) (g .top)
+
+-- b is the budget of frame f, which has a and comes before frame i
+abbrev pub CaughtAt : Rule → List ℕ → ℕ → At → ℕ → ℕ → Type 0
+CaughtAt r hs i f a b = Between (r .end) (frames r hs) i a (f .least) (f .most) b b
