@@ -29,6 +29,7 @@
  * A list is a pointer and then its length in entries. It must be aligned and valid for that length, and not null even
  * where the length is 0. A list that a call writes must not overlap another list of the same call. No call keeps a
  * pointer, allocates, or touches anything but its lists, so calls on different lists may run at the same time.
+ * Working lists stand on the stack: a call takes less than 128 KiB of it.
  */
 #ifndef ENERGY_H
 #define ENERGY_H

@@ -39,10 +39,10 @@ done <docs/READING.md
 
 # the inner functions that READING lists are those that the crates hand on, save their entries
 inner=$(sed -n '/^### Inner functions/,/^## /p' docs/READING.md | awk -F'|' '/^\| `/ { crate = $2; gsub(/[` ]/, "", crate); n = split($3, names, ","); for (i = 1; i <= n; i++) { gsub(/[` ]/, "", names[i]); print crate, names[i] } }' | sort)
-handed_on=$(for crate in request pace listing wordfile; do sed -n "s/^pub use [a-z]*::\([a-z_]*\);\$/$crate \1/p" crates/$crate/src/lib.rt; done | grep -vxE 'listing list|wordfile (read|write)' | sort)
+handed_on=$(for crate in request certifier leveller listing wordfile; do sed -n "s/^pub use [a-z]*::\([a-z_]*\);\$/$crate \1/p" crates/$crate/src/lib.rt; done | grep -vxE 'listing list|wordfile (read|write)' | sort)
 [ "$inner" = "$handed_on" ]
-verdict $? "READING: inner functions differ from what request, pace, listing and wordfile hand on"
-for crate in request pace listing wordfile; do
+verdict $? "READING: inner functions differ from what request, certifier, leveller, listing and wordfile hand on"
+for crate in request certifier leveller listing wordfile; do
     ! grep -qE '^pub (mod|fn)|^pub use .*[{*]' crates/$crate/src/lib.rt
     verdict $? "$crate hands on more than single names"
 done

@@ -13,15 +13,12 @@ use Rattle.model.specs.Request.{Request, request, total, mostEnergy}
 use Rattle.model.specs.Refusals.{isNone, planRefusal, neededRefusal, Outcome, gives, refuses, outcome}
 use Rattle.model.specs.Charge.{feasible}
 use Rattle.model.specs.Reward.{IsPlan, IsNeeded}
-use Rattle.model.specs.Frames.{Frame, left, budget, plan}
+use Rattle.model.specs.Frames.{plan, peak}
 use Rattle.model.specs.Plan.{framesOf, planOf, openPlan, neededOf}
-use Rattle.model.proofs.Lowest.{carried}
-use Rattle.model.proofs.Peak.{greatest, needed-carried}
 use Rattle.model.proofs.Request.{plan-is, out-of-reach}
 use Rattle.model.proofs.Needed.{needed-is}
 use Rattle.model.proofs.Refusals.{plan-nine, needed-nine}
-use Rattle.pace.specs.Pace.{Ready}
-use Rattle.pace.specs.Peak.{peakCarried}
+use Rattle.leveller.specs.Plan.{Ready}
 use Rattle.request.proofs.Harvest.{total-small}
 use Rattle.request.proofs.Within.{PlanWithin, plan-within, NeededWithin, needed-within}
 use Rattle.planner.specs.declared.plan.PlanAnswer.the-variants as plan-answer
@@ -57,6 +54,7 @@ plan-ready c s e n t hs w p =
       capacity-fits = omega (arith, g .capacity-small);
       start-fits = omega (arith, g .capacity-small, g .start-fits);
       most-fits = omega (arith, g .capacity-small, g .start-fits);
+      few = w .frames .few;
       kept = g .end-fits;
       reached = w .reach;
     }
@@ -98,23 +96,17 @@ needed-ready s e t hs w p =
       capacity-fits = omega (arith, w .start-small, w .end-small);
       start-fits = omega (arith, w .start-small);
       most-fits = omega (arith, w .start-small);
+      few = w .frames .few;
       kept = omega arith;
       reached = w .reach;
     }
 
--- the greatest charge that the planning core carries is that of the plan
-peak-is : (e y : ℕ) (fs : List Frame) → peakCarried e y fs ≡ greatest (carried y fs (plan e y fs))
-unfolding peakCarried carried plan
-peak-is e y [] = refl
-peak-is e y (f ∷ fs) = let z = left f y (budget e y f fs) in ap (max z) (peak-is e z fs)
-
--- so the highest charge of the plan without limit, with start and end, is the needed capacity
-pub needed-found : (s e t peak : ℕ) (hs : List ℕ) → NeededWithin (request 0 s e hs) → t ≡ total hs →
-    peak ≡ peakCarried e s (framesOf (s + (e + t)) (s + t) hs) → max s (max e peak) ≡ neededOf (request 0 s e hs)
-unfolding openPlan
-needed-found s e t peak hs w p q =
-    let u : peak ≡ greatest (carried s (framesOf (s + (e + total hs)) (s + total hs) hs) (openPlan (request 0 s e hs))) = (rw p at q) ∙ peak-is e s (framesOf (s + (e + total hs)) (s + total hs) hs) in
-    rw u (sym (needed-carried (request 0 s e hs) (w .reach)))
+-- what the plan without limit requires, with start and end, is the needed capacity
+pub needed-found : (s e t p : ℕ) (hs : List ℕ) → t ≡ total hs →
+    p ≡ peak e (framesOf (s + (e + t)) (s + t) hs) (plan e s (framesOf (s + (e + t)) (s + t) hs)) →
+    max s (max e p) ≡ neededOf (request 0 s e hs)
+unfolding neededOf openPlan
+needed-found s e t p hs q h = ap (λ (n : ℕ). max s (max e n)) (rw q at h)
 
 -- of a request that is not refused, the capacity is the needed one
 accepted-needed : (q : Request) → isNone (neededRefusal q) ≡ true → IsNeeded q (neededOf q)

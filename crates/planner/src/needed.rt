@@ -1,7 +1,7 @@
 // The capacity that a request needs.
 ghost use Rattle.planner.specs.Says.{NeededSays};
-use pace::greater;
-use pace::peak_charge;
+use certifier::greater;
+use leveller::plan_peak;
 use request::is_none;
 use request::needed_refusal;
 use request::sum;
@@ -12,7 +12,7 @@ pub enum NeededAnswer {
     Refused(model::Refusal),
 }
 
-// Refuses with 1, 2, 3, 6 or 9, in this order, or gives the highest charge of the plan without limit.
+// Refuses with 1, 2, 3, 6 or 9, in this order, or gives the greatest of the start, the end and what the plan without limit requires.
 pub fn needed(start: u32, end: u32, harvest: &[u32]) -> NeededAnswer
     ensures { λ r. ⌜ NeededSays start end (now (harvest .entry)) r ⌝ }
 {
@@ -24,6 +24,6 @@ pub fn needed(start: u32, end: u32, harvest: &[u32]) -> NeededAnswer
     let first = start as u64;
     let last = end as u64;
     let energy = first + all;
-    let peak = peak_charge(first + (last + all), first, last, energy, harvest);
+    let peak = plan_peak(first + (last + all), first, last, energy, harvest);
     NeededAnswer::Capacity(greater(first, greater(last, peak)))
 }

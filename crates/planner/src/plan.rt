@@ -1,6 +1,6 @@
 // The plan of a request.
 ghost use Rattle.planner.specs.Says.{PlanSays};
-use pace::plan_into;
+use leveller::plan_into;
 use request::is_none;
 use request::plan_refusal;
 use request::sum;

@@ -19,7 +19,7 @@ use Rattle.model.specs.Frames.{Frame, plan}
 use Rattle.model.specs.Plan.{framesOf, planOf}
 use Rattle.model.proofs.Request.{plan-is, out-of-reach}
 use Rattle.request.proofs.Harvest.{total-small}
-use Rattle.pace.specs.Pace.{Ready}
+use Rattle.leveller.specs.Plan.{Ready}
 use Rattle.shift.specs.declared.Shift.{Shift}
 use Rattle.shift.specs.declared.RestAnswer.{RestAnswer}
 use Rattle.shift.specs.declared.RestAnswer.the-variants as rest
@@ -117,6 +117,7 @@ module _ (s : Shift) (hs b : List ℕ) (clear : isNone (restRefusal s hs (length
         capacity-fits = omega arith;
         start-fits = omega arith;
         most-fits = omega arith;
+        few = omega (arith, ap length (part-is (s .recorded) hs));
         kept = o .ready .sound .end-low;
         reached = omega arith;
       }

@@ -6,8 +6,8 @@ ghost use Rattle.model.specs.Request.{request};
 ghost use Rattle.model.specs.Refusals.{isNone};
 ghost use Rattle.shift.specs.Shift.{recordRefusal, recordedBy};
 ghost use Rattle.shift.specs.Says.{StartSays, RecordSays, RestSays, PartSays};
+use leveller::plan_into;
 use model::Refusal;
-use pace::plan_into;
 use request::is_none;
 
 mod clear;

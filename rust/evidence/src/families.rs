@@ -33,6 +33,14 @@ pub const FAMILIES: [Family; 9] = [
     Family::ZeroCapacity,
 ];
 
+/// The families that are also measured with start and end at the capacity.
+pub const FULL: [Family; 4] = [
+    Family::Falling,
+    Family::Alternating,
+    Family::Constant,
+    Family::StartChargeOnly,
+];
+
 impl Family {
     /// The family's name in tables.
     pub fn name(self) -> &'static str {
@@ -47,6 +55,11 @@ impl Family {
             Family::Staircase => "staircase",
             Family::ZeroCapacity => "zero capacity",
         }
+    }
+
+    /// Whether the family has more than one request of a size and a number of frames.
+    pub fn is_random(self) -> bool {
+        matches!(self, Family::DailySun | Family::Random | Family::ZeroCapacity)
     }
 
     /// Harvests of the family, none above `most`.
@@ -132,4 +145,13 @@ pub fn request(family: Family, size: Size, frames: usize, most: u32, random: &mu
         _ => (half, half),
     };
     (Figures { capacity, start, end }, harvest)
+}
+
+/// The same figures with start and end at the capacity.
+pub fn full(figures: Figures) -> Figures {
+    Figures {
+        start: figures.capacity,
+        end: figures.capacity,
+        ..figures
+    }
 }

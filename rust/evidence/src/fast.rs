@@ -1,6 +1,6 @@
-//! Document 01's entries over the carried pace, the rest as in the reference: the baseline for speed.
+//! Document 01's entries by guess, certify, follow, the rest as in the reference: the baseline for speed.
 
-use crate::algorithms::pace;
+use crate::algorithms::certificate;
 use crate::reference::{listing, refusals, shift, Reference};
 use energy::{Energy, Figures, FileRead, NotRecorded, Refusal, Rest, Shift, Verdict};
 
@@ -14,7 +14,7 @@ impl Energy for Fast {
 
     fn plan(&self, figures: Figures, harvest: &[u32], budgets: &mut [u32]) -> Result<(), Refusal> {
         refusals::plan(figures, harvest, budgets.len())?;
-        pace::plan_into(
+        certificate::plan_into(
             figures.capacity.into(),
             figures.start.into(),
             figures.end.into(),
@@ -26,7 +26,7 @@ impl Energy for Fast {
 
     fn needed(&self, start: u32, end: u32, harvest: &[u32]) -> Result<u64, Refusal> {
         refusals::needed(start, end, harvest)?;
-        Ok(pace::needed(start.into(), end.into(), harvest))
+        Ok(certificate::needed(start.into(), end.into(), harvest))
     }
 
     fn trace(
@@ -52,7 +52,7 @@ impl Energy for Fast {
     }
 
     fn shift_plan_rest(&self, shift: Shift, harvest: &[u32], budgets: &mut [u32]) -> Result<Rest, Refusal> {
-        shift::plan_rest(shift, harvest, budgets, pace::plan)
+        shift::plan_rest(shift, harvest, budgets, certificate::plan)
     }
 
     fn shift_rest_part<'a>(&self, shift: Shift, budgets: &'a [u32]) -> Result<&'a [u32], Refusal> {

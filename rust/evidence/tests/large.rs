@@ -2,7 +2,7 @@
 
 use energy::Figures;
 use evidence::cases::Case;
-use evidence::families::{request, FAMILIES, SIZES};
+use evidence::families::{full, request, FAMILIES, FULL, SIZES};
 use evidence::random::{seed, Random};
 use evidence::reference::needed::needed;
 use evidence::reference::plan::{by_filling, by_reserve};
@@ -38,13 +38,16 @@ fn compare(figures: Figures, harvest: &[u32], method: PlanMethod) {
     }
 }
 
-/// Every family and size at a number of frames.
+/// Every family and size at a number of frames, some also with start and end at the capacity.
 fn families(frames: usize, most: u32, method: PlanMethod) {
     for (i, family) in FAMILIES.into_iter().enumerate() {
         for size in SIZES {
             let mut random = Random::of_case(seed(), 4_000_000 + i as u64);
             let (figures, harvest) = request(family, size, frames, most, &mut random);
             compare(figures, &harvest, method);
+            if FULL.contains(&family) {
+                compare(full(figures), &harvest, method);
+            }
         }
     }
 }

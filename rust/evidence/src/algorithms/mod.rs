@@ -1,5 +1,5 @@
 //! The algorithms that the planner is measured against.
 
+pub mod certificate;
 pub mod linear;
-pub mod pace;
 pub mod source;

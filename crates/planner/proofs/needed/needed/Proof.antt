@@ -1,4 +1,4 @@
--- `planner::needed` meets its contract: the first refusal is handed on, and otherwise the highest charge of the open plan is found.
+-- `planner::needed` meets its contract: the first refusal is handed on, and otherwise what the plan without limit requires is found.
 use borrow.Author.Needs.{needs}
 use borrow.Author.Tests.{not-true, not-false}
 use mathlib.Core.Path.{_≡_, sym, ap, _∙_}
@@ -41,14 +41,14 @@ sum-requires c κs = omega (arith, accepted c .frames .few)
 add-energy : tie.Need-add-energy
 add-energy c = search needs
 
-add-peak-charge : tie.Need-add-peak-charge
-add-peak-charge c = search needs
+add-plan-peak : tie.Need-add-plan-peak
+add-plan-peak c = search needs
 
-add-peak-charge-2 : tie.Need-add-peak-charge-2
-add-peak-charge-2 c = search needs
+add-plan-peak-2 : tie.Need-add-plan-peak-2
+add-plan-peak-2 c = search needs
 
-peak-charge-requires : tie.Need-peak-charge-requires
-peak-charge-requires c κs =
+plan-peak-requires : tie.Need-plan-peak-requires
+plan-peak-requires c κs =
     let a = c .before .before .before .before .before .args in
     law.needed-ready (a .start) (a .end) (c .sum .result) (now (a .harvest)) (accepted (c .before)) (c .sum .ensures .0)
 
@@ -63,13 +63,13 @@ returns-2 c =
     let e = c .before .before .before .before in
     let a = e .before .before .before .before .args in
     let sum = c .before .before .before .sum in
-    let peak = c .before .before .peak-charge in
+    let peak = c .before .before .plan-peak in
     law.needed-given (a .start) (a .end) (now (a .harvest)) (c .greater2 .result) (e .before .before .needed-refusal .result)
     (e .before .before .needed-refusal .ensures 0)
     (sym (e .before .is-none .ensures) ∙ not-false (e .before .is-none .result) (e .if1 .left))
     (c .greater2 .ensures
     ∙ (ap (max (a .start)) (c .before .greater .ensures)
-    ∙ law.needed-found (a .start) (a .end) (sum .result) (peak .result) (now (a .harvest)) (accepted e) (sum .ensures .0) (peak .ensures)))
+    ∙ law.needed-found (a .start) (a .end) (sum .result) (peak .result) (now (a .harvest)) (sum .ensures .0) (peak .ensures)))
 
 pub needed-spec : {M : Type 1} → statement M
 needed-spec =
@@ -80,9 +80,9 @@ needed-spec =
     returns
     sum-requires
     add-energy
-    add-peak-charge
-    add-peak-charge-2
-    peak-charge-requires
+    add-plan-peak
+    add-plan-peak-2
+    plan-peak-requires
     greater-requires
     greater-requires-2
     returns-2)

@@ -1,0 +1,2 @@
+-- The laws behind the functions' proofs.
+pub mod Start

@@ -1,0 +1,24 @@
+-- The string's levels, certified and followed.
+use mathlib.Core.Path.{_∙_}
+use borrow.Author.Needs.{needs}
+use Rattle.leveller.proofs.plan.by_string.Statement.{statement}
+use Rattle.leveller.proofs.plan.by_string.Tie as tie
+
+returns : tie.Need-returns
+returns c =
+    let levels = c .before .before .before .before in
+    let string = levels .before .before .before .before .before .before .before .before .before in
+    let kept = string .string-levels .ensures in
+    let planned = levels .by-levels .ensures in
+    (kept .1, (planned .0 ∙ kept .2, planned .1 ∙ kept .0, planned .2))
+
+pub by-string-spec : {M : Type 1} → statement M
+by-string-spec =
+    tie.close
+    (tie.spec
+    (λ c κs. search needs)
+    (λ c κs. search needs)
+    (λ c. search needs)
+    (λ c. search needs)
+    (λ c. search needs)
+    returns)

@@ -1,0 +1,2 @@
+-- What planning asks and gives.
+pub mod Plan

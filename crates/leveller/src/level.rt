@@ -1,0 +1,71 @@
+// The first guess: one level for all frames, the mean of what there is to draw. It takes one sum over the inflows, and many
+// requests have no other level. Where the store runs dry or overflows at it in the first frames, as before a sunrise, it is not
+// worth a certificate.
+use super::list::fill;
+use super::list::less;
+use super::list::minus;
+use super::list::over;
+use super::list::plus;
+use super::list::within;
+use certifier::Rule;
+use certifier::draw;
+use certifier::frame_at;
+ghost use mathlib.Core.Path.{_≡_};
+ghost use lib.ListN.{length};
+ghost use Rattle.certifier.specs.Says.{Small};
+
+// How many frames are the first ones.
+const FIRST: usize = 64;
+
+// All that comes in, less what is drained.
+fn brought(rule: Rule, harvest: &[u32]) -> u64
+    requires { ⌜ Small rule ⌝ }
+{
+    let mut inflows = 0;
+    let mut drains = 0;
+    let mut i = 0;
+    while i < harvest.len() {
+        let f = frame_at(rule, harvest, i);
+        inflows = plus(inflows, f.inflow);
+        drains = plus(drains, f.drain);
+        i += 1;
+    }
+    less(inflows, drains)
+}
+
+// Whether the first frames can draw a level: the store neither runs dry nor overflows.
+fn lasts_at_first(rule: Rule, harvest: &[u32], start: u64, level: u64) -> bool
+    requires { ⌜ Small rule ⌝ }
+{
+    let last = within(FIRST, harvest.len());
+    let mut charge = start;
+    let mut i = 0;
+    while i < last {
+        let f = frame_at(rule, harvest, i);
+        let have = plus(charge, f.inflow);
+        let need = plus(f.drain, draw(f.least, f.most, level));
+        if f.ceiling < have {
+            return false;
+        }
+        if have < need {
+            return false;
+        }
+        charge = minus(have, need);
+        i += 1;
+    }
+    true
+}
+
+// Writes the mean as the level of every frame, if the first of them can draw it. Says whether it did.
+pub fn one_level(rule: Rule, harvest: &[u32], start: u64, levels: &mut [u32]) -> bool
+    requires { ⌜ Small rule ⌝ }
+    ensures { λ _. ⌜ length (now (levels .exit)) ≡ length (now (levels .entry)) ⌝ }
+{
+    let drawn = less(plus(start, brought(rule, harvest)), rule.end);
+    let mean = over(drawn, harvest.len() as u64);
+    if lasts_at_first(rule, harvest, start, mean) {
+        fill(levels, 0, levels.len(), mean);
+        return true;
+    }
+    false
+}

@@ -1,0 +1,73 @@
+// What the plan requires of the store.
+use super::plan::DAY;
+use super::plan::plan_into;
+use certifier::Rule;
+use certifier::peak_requirement;
+ghost use mathlib.Core.Path.{_≡_};
+ghost use lib.ListN.{length};
+ghost use Prim.Native.Nat.{_≤_};
+ghost use Rattle.leveller.specs.Plan.{Ready, PeakOf};
+
+// The greatest charge that the plan requires after any frame; the plan is written into the budgets.
+fn peak_by(
+    capacity: u64,
+    start: u64,
+    end: u64,
+    most: u64,
+    harvest: &[u32],
+    budgets: &mut [u32],
+) -> u64
+    requires { ⌜ Ready capacity start end most (now harvest) × (length (now budgets) ≡ length (now harvest)) ⌝ }
+    ensures { λ r. ⌜ PeakOf capacity start end most (now (harvest .entry)) r ⌝ }
+{
+    plan_into(capacity, start, end, most, harvest, budgets);
+    let rule = Rule {
+        capacity: capacity,
+        end: end,
+        most: most,
+    };
+    peak_requirement(rule, harvest, budgets)
+}
+
+// The same with a list for a day.
+fn peak_day(capacity: u64, start: u64, end: u64, most: u64, harvest: &[u32]) -> u64
+    requires { ⌜ Ready capacity start end most (now harvest) × (length (now harvest) ≤ 128) ⌝ }
+    ensures { λ r. ⌜ PeakOf capacity start end most (now (harvest .entry)) r ⌝ }
+{
+    let mut budgets = [0u32; 128];
+    peak_by(
+        capacity,
+        start,
+        end,
+        most,
+        harvest,
+        &mut budgets[0..harvest.len()],
+    )
+}
+
+// The same with a list for all frames that a request may have.
+fn peak_month(capacity: u64, start: u64, end: u64, most: u64, harvest: &[u32]) -> u64
+    requires { ⌜ Ready capacity start end most (now harvest) ⌝ }
+    ensures { λ r. ⌜ PeakOf capacity start end most (now (harvest .entry)) r ⌝ }
+{
+    let mut budgets = [0u32; 2976];
+    peak_by(
+        capacity,
+        start,
+        end,
+        most,
+        harvest,
+        &mut budgets[0..harvest.len()],
+    )
+}
+
+// The greatest charge that the plan requires after any frame.
+pub fn plan_peak(capacity: u64, start: u64, end: u64, most: u64, harvest: &[u32]) -> u64
+    requires { ⌜ Ready capacity start end most (now harvest) ⌝ }
+    ensures { λ r. ⌜ PeakOf capacity start end most (now (harvest .entry)) r ⌝ }
+{
+    if harvest.len() <= DAY {
+        return peak_day(capacity, start, end, most, harvest);
+    }
+    peak_month(capacity, start, end, most, harvest)
+}

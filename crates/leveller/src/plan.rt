@@ -1,0 +1,170 @@
+// The plan of a request: levels are guessed, certified and followed. One level for all frames is tried first, then the string,
+// then the splitting; a guess that is not certified costs time and nothing else.
+use super::level::one_level;
+use super::split::split_levels;
+use super::string::string_levels;
+use certifier::Rule;
+use certifier::certify;
+use certifier::follow;
+use certifier::search_all;
+ghost use mathlib.Core.Path.{_≡_};
+ghost use Prim.Native.Nat.{_≤_};
+ghost use lib.ListN.{length};
+ghost use Rattle.model.specs.Limits.{maxFrames};
+ghost use Rattle.model.specs.Frames.{plan};
+ghost use Rattle.model.specs.Plan.{framesOf};
+ghost use Rattle.leveller.specs.Plan.{Ready, Startable, Lent, Tried, PlannedAt};
+
+// The most frames for which lists of 128 and of 768 numbers are taken: enough for a day and a week of quarter hours.
+pub const DAY: usize = 128;
+
+const WEEK: usize = 768;
+
+// The budgets are levels: has them certified and turns them into the plan's budgets, or leaves them as they are.
+fn by_levels(
+    rule: Rule,
+    harvest: &[u32],
+    start: u64,
+    after: &mut [u32],
+    budgets: &mut [u32],
+) -> bool
+    requires { ⌜ Lent rule (now harvest) start (now after) (now budgets) ⌝ }
+    ensures { λ r. ⌜ Tried rule (now (harvest .entry)) start (now (after .entry)) (now (after .exit)) (now (budgets .entry)) (now (budgets .exit)) r ⌝ }
+{
+    if certify(rule, harvest, start, budgets, after) {
+        follow(rule, harvest, start, after, budgets);
+        return true;
+    }
+    false
+}
+
+// The plan by one level for all frames.
+fn by_one_level(
+    rule: Rule,
+    harvest: &[u32],
+    start: u64,
+    after: &mut [u32],
+    budgets: &mut [u32],
+) -> bool
+    requires { ⌜ Lent rule (now harvest) start (now after) (now budgets) ⌝ }
+    ensures { λ r. ⌜ Tried rule (now (harvest .entry)) start (now (after .entry)) (now (after .exit)) (now (budgets .entry)) (now (budgets .exit)) r ⌝ }
+{
+    if one_level(rule, harvest, start, budgets) {
+        return by_levels(rule, harvest, start, after, budgets);
+    }
+    false
+}
+
+// The plan by the string, whose chains stand in the other two lists.
+fn by_string(
+    rule: Rule,
+    harvest: &[u32],
+    start: u64,
+    after: &mut [u32],
+    marks: &mut [u32],
+    budgets: &mut [u32],
+) -> bool
+    requires { ⌜ Lent rule (now harvest) start (now after) (now budgets) ⌝ }
+    ensures { λ r. ⌜ (length (now (marks .exit)) ≡ length (now (marks .entry))) × Tried rule (now (harvest .entry)) start (now (after .entry)) (now (after .exit)) (now (budgets .entry)) (now (budgets .exit)) r ⌝ }
+{
+    string_levels(rule, harvest, start, budgets, marks, after);
+    by_levels(rule, harvest, start, after, budgets)
+}
+
+// The plan by the splitting, which keeps the highest levels in `after` and its tries in `marks`.
+fn by_splitting(
+    rule: Rule,
+    harvest: &[u32],
+    start: u64,
+    after: &mut [u32],
+    marks: &mut [u32],
+    budgets: &mut [u32],
+) -> bool
+    requires { ⌜ Lent rule (now harvest) start (now after) (now budgets) ⌝ }
+    ensures { λ r. ⌜ (length (now (marks .exit)) ≡ length (now (marks .entry))) × Tried rule (now (harvest .entry)) start (now (after .entry)) (now (after .exit)) (now (budgets .entry)) (now (budgets .exit)) r ⌝ }
+{
+    split_levels(rule, harvest, start, budgets, after, marks);
+    by_levels(rule, harvest, start, after, budgets)
+}
+
+// Writes the plan's budgets by the first guess that is certified, or by a search in every frame.
+fn plan_with(
+    rule: Rule,
+    harvest: &[u32],
+    start: u64,
+    after: &mut [u32],
+    marks: &mut [u32],
+    budgets: &mut [u32],
+)
+    requires { ⌜ Lent rule (now harvest) start (now after) (now budgets) ⌝ }
+    ensures { λ _. ⌜ PlannedAt rule (now (harvest .entry)) start (now (budgets .exit)) ⌝ }
+{
+    if by_one_level(rule, harvest, start, after, budgets) {
+        return;
+    }
+    if by_string(rule, harvest, start, after, marks, budgets) {
+        return;
+    }
+    if by_splitting(rule, harvest, start, after, marks, budgets) {
+        return;
+    }
+    search_all(rule, harvest, start, budgets);
+}
+
+// The same with lists for a day: to clear longer ones would take as long as its plan.
+fn plan_day(rule: Rule, harvest: &[u32], start: u64, budgets: &mut [u32])
+    requires { ⌜ Startable rule (now harvest) start × (length (now budgets) ≡ length (now harvest)) × (length (now harvest) ≤ 128) ⌝ }
+    ensures { λ _. ⌜ PlannedAt rule (now (harvest .entry)) start (now (budgets .exit)) ⌝ }
+{
+    let mut after = [0u32; 128];
+    let mut marks = [0u32; 128];
+    plan_with(rule, harvest, start, &mut after, &mut marks, budgets);
+}
+
+// The same with lists for a week.
+fn plan_week(rule: Rule, harvest: &[u32], start: u64, budgets: &mut [u32])
+    requires { ⌜ Startable rule (now harvest) start × (length (now budgets) ≡ length (now harvest)) × (length (now harvest) ≤ 768) ⌝ }
+    ensures { λ _. ⌜ PlannedAt rule (now (harvest .entry)) start (now (budgets .exit)) ⌝ }
+{
+    let mut after = [0u32; 768];
+    let mut marks = [0u32; 768];
+    plan_with(rule, harvest, start, &mut after, &mut marks, budgets);
+}
+
+// The same with lists for all frames that a request may have.
+fn plan_month(rule: Rule, harvest: &[u32], start: u64, budgets: &mut [u32])
+    requires { ⌜ Startable rule (now harvest) start × (length (now budgets) ≡ length (now harvest)) × (length (now harvest) ≤ maxFrames) ⌝ }
+    ensures { λ _. ⌜ PlannedAt rule (now (harvest .entry)) start (now (budgets .exit)) ⌝ }
+{
+    let mut after = [0u32; 2976];
+    let mut marks = [0u32; 2976];
+    plan_with(rule, harvest, start, &mut after, &mut marks, budgets);
+}
+
+// Writes the plan's budgets. No budget is above `most`, which the caller sets to what no budget can reach.
+pub fn plan_into(
+    capacity: u64,
+    start: u64,
+    end: u64,
+    most: u64,
+    harvest: &[u32],
+    budgets: &mut [u32],
+)
+    requires { ⌜ Ready capacity start end most (now harvest) × (length (now budgets) ≡ length (now harvest)) ⌝ }
+    ensures { λ _. ⌜ now (budgets .exit) ≡ plan end start (framesOf capacity most (now (harvest .entry))) ⌝ }
+{
+    let rule = Rule {
+        capacity: capacity,
+        end: end,
+        most: most,
+    };
+    if harvest.len() <= DAY {
+        plan_day(rule, harvest, start, budgets);
+        return;
+    }
+    if harvest.len() <= WEEK {
+        plan_week(rule, harvest, start, budgets);
+        return;
+    }
+    plan_month(rule, harvest, start, budgets);
+}

@@ -1,0 +1,79 @@
+//! What a run measured: for each row and call the library's time, and its ratios to the other implementations.
+
+use crate::beside::Beside;
+use crate::contenders::{library, other, source, twin, Call, Run, CALLS};
+use crate::instructions::Counts;
+use crate::rows::{rows, Request, Row, FRAMES};
+use crate::time::{lower, ROUNDS};
+
+/// What was measured of a call in a row.
+pub struct Measure {
+    pub micros: f64,
+    pub twin: f64,
+    pub source: f64,
+    pub beside: Option<f64>,
+    /// In counted instructions.
+    pub growth: Option<f64>,
+}
+
+/// A row with what was measured of each call, in the order of `CALLS`.
+pub struct Line {
+    pub row: Row,
+    pub calls: [Measure; 2],
+}
+
+/// All rows, with the name of the build beside and the counts of instructions where they were asked for.
+pub struct Measured {
+    pub lines: Vec<Line>,
+    pub beside: Option<Beside>,
+    pub counts: Option<Counts>,
+}
+
+/// The implementations of a call, the library first.
+fn runs(call: Call, beside: Option<&Beside>) -> Vec<Run> {
+    let mut runs = vec![library(call), twin(call), source(call)];
+    runs.extend(beside.map(|beside| other(beside, call)));
+    runs
+}
+
+/// The times of a call in all rows by each implementation.
+fn times(call: Call, rows: &[Row], beside: Option<&Beside>) -> Vec<Vec<f64>> {
+    let mut runs = runs(call, beside);
+    let requests: Vec<Vec<Request>> = rows.iter().map(Row::requests).collect();
+    let mut best = vec![vec![f64::INFINITY; runs.len()]; rows.len()];
+    for _ in 0..ROUNDS {
+        for (best, requests) in best.iter_mut().zip(&requests) {
+            lower(best, requests, &mut runs);
+        }
+    }
+    best
+}
+
+/// The library's time, and its ratios to the others.
+fn measure(times: &[f64], growth: Option<f64>) -> Measure {
+    Measure {
+        micros: times[0],
+        twin: times[0] / times[1],
+        source: times[0] / times[2],
+        beside: times.get(3).map(|time| times[0] / time),
+        growth,
+    }
+}
+
+impl Measured {
+    /// Measures every row.
+    pub fn take(beside: Option<&Beside>, counts: Option<Counts>) -> Measured {
+        let rows = rows(&FRAMES);
+        let times = CALLS.map(|call| times(call, &rows, beside));
+        let line = |(i, &row): (usize, &Row)| {
+            let growth = |call| counts.as_ref().and_then(|counts| counts.growth(call, &row));
+            let calls = CALLS.map(|call| measure(&times[call as usize][i], growth(call)));
+            Line { row, calls }
+        };
+        Measured {
+            lines: rows.iter().enumerate().map(line).collect(),
+            beside: beside.cloned(),
+            counts,
+        }
+    }
+}

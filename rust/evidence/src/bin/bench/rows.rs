@@ -1,0 +1,87 @@
+//! What is measured: a row for every family, size and number of frames, and the requests that stand for it.
+
+use energy::Figures;
+use evidence::families::{full, request, Family, Size, FAMILIES, FULL, SIZES};
+use evidence::random::{seed, Random};
+
+/// The numbers of frames measured: a day, half a week, a week, half a month, a month of quarter hours.
+pub const FRAMES: [usize; 5] = [96, 336, 672, 1_488, 2_976];
+
+/// The largest harvest of the measured requests.
+pub const MOST: u32 = 1_000;
+
+/// How many requests of a random family stand for it, so that a processor doesn't learn the branches of one.
+const REQUESTS: u64 = 8;
+
+/// A request, its harvests also as the source's algorithms take them.
+pub struct Request {
+    pub figures: Figures,
+    pub harvest: Vec<u32>,
+    pub fractions: Vec<f64>,
+}
+
+/// A row of the tables.
+#[derive(Clone, Copy, PartialEq)]
+pub struct Row {
+    pub family: Family,
+    /// Start and end at the capacity.
+    pub full: bool,
+    pub size: Size,
+    pub frames: usize,
+}
+
+impl Row {
+    /// The row's harvests and charges.
+    fn kind(&self) -> String {
+        let full = if self.full { ", full" } else { "" };
+        format!("{}{full}", self.family.name())
+    }
+
+    /// The first cells of the row: harvests and capacity.
+    pub fn name(&self) -> String {
+        format!("{} | {}", self.kind(), self.size.name())
+    }
+
+    /// The row's name in a line of its own.
+    pub fn sentence(&self) -> String {
+        format!("{}, {} capacity, {} frames", self.kind(), self.size.name(), self.frames)
+    }
+
+    /// The row's requests: the same in every run with the same seed.
+    pub fn requests(&self) -> Vec<Request> {
+        let count = if self.family.is_random() { REQUESTS } else { 1 };
+        (0..count).map(|i| self.request(i)).collect()
+    }
+
+    /// One of the row's requests.
+    fn request(&self, i: u64) -> Request {
+        let mut random = Random::of_case(seed(), self.frames as u64 + (i << 32));
+        let (figures, harvest) = request(self.family, self.size, self.frames, MOST, &mut random);
+        Request {
+            figures: if self.full { full(figures) } else { figures },
+            fractions: harvest.iter().map(|&h| f64::from(h)).collect(),
+            harvest,
+        }
+    }
+}
+
+/// The rows of some numbers of frames, in the order of the tables.
+pub fn rows(frames: &[usize]) -> Vec<Row> {
+    let usual = FAMILIES.iter().map(|&family| (family, false));
+    let kinds = usual.chain(FULL.iter().map(|&family| (family, true)));
+    let mut rows = Vec::new();
+    for (family, full) in kinds {
+        for size in SIZES {
+            if family == Family::ZeroCapacity && size != Size::Small {
+                continue;
+            }
+            rows.extend(frames.iter().map(|&frames| Row {
+                family,
+                full,
+                size,
+                frames,
+            }));
+        }
+    }
+    rows
+}
