@@ -15,39 +15,40 @@ static void print_budgets(const char *label, const uint32_t *budgets, size_t cou
 }
 
 /* Prints a refusal and gives the program's exit status. */
-static int refused(uint32_t number, uint64_t p)
+static int refused(struct EnergyRefusal refusal)
 {
-    printf("refused %" PRIu32 " %" PRIu64 "\n", number, p);
+    printf("refused %" PRIu32 " %" PRIu64 "\n", refusal.number, refusal.p);
     return 1;
 }
 
 int main(void)
 {
+    const struct EnergyFigures figures = {.capacity = 5, .start = 2, .end = 2};
     const uint32_t harvest[6] = {6, 4, 0, 0, 5, 5};
     uint32_t budgets[6] = {0};
 
-    struct EnergyPlanAnswer plan = energy_plan(5, 2, 2, harvest, 6, budgets, 6);
-    if (plan.number != 0)
-        return refused(plan.number, plan.p);
+    struct EnergyPlanAnswer plan = energy_plan(figures, harvest, 6, budgets, 6);
+    if (plan.refusal.number != 0)
+        return refused(plan.refusal);
     print_budgets("plan", budgets, 6);
 
-    struct EnergyNeededAnswer needed = energy_needed(2, 2, harvest, 6);
-    if (needed.number != 0)
-        return refused(needed.number, needed.p);
+    struct EnergyNeededAnswer needed = energy_needed(figures, harvest, 6);
+    if (needed.refusal.number != 0)
+        return refused(needed.refusal);
     printf("needed: %" PRIu64 "\n", needed.capacity);
 
-    struct EnergyShiftAnswer start = energy_shift_start(5, 2, 2, harvest, 6);
-    if (start.number != 0)
-        return refused(start.number, start.p);
+    struct EnergyShiftAnswer start = energy_shift_start(figures, harvest, 6);
+    if (start.refusal.number != 0)
+        return refused(start.refusal);
     struct EnergyShiftAnswer next = energy_shift_record(start.shift, 1, 3);
-    if (next.number != 0)
-        return refused(next.number, next.p);
+    if (next.refusal.number != 0)
+        return refused(next.refusal);
     struct EnergyRestAnswer rest = energy_shift_plan_rest(next.shift, harvest, 6, budgets, 6);
-    if (rest.number != 0)
-        return refused(rest.number, rest.p);
+    if (rest.refusal.number != 0)
+        return refused(rest.refusal);
     struct EnergyPartAnswer part = energy_shift_rest_part(next.shift, budgets, 6);
-    if (part.number != 0)
-        return refused(part.number, part.p);
+    if (part.refusal.number != 0)
+        return refused(part.refusal);
     print_budgets("rest", budgets + part.from, part.length);
     return 0;
 }

@@ -7,7 +7,7 @@
  * harvest and the last charge is at least the end charge. A plan is feasible, best for every good reward table at once,
  * and of such budgets the one that takes more at the first difference.
  *
- * Every struct answered begins with `number`, 0 if the call was accepted, and `p`, 0 unless named:
+ * Every struct answered begins with a refusal: its `number`, 0 if the call was accepted, and its `p`, 0 unless named:
  *
  *    1  no frames
  *    2  more than ENERGY_MAX_FRAMES frames, or a file above ENERGY_MAX_FILE_BYTES
@@ -22,8 +22,9 @@
  *   21  use greater than charge plus harvest; p is the excess
  *   22  a shift record that isn't one
  *
- * A refused call alters no list, and the other fields of its answer are 0, whatever is said of them below, save the shift
- * of a refused recording, which is the one given.
+ * Each function names its refusals in their order: the first that holds is given.
+ * A refused call alters no list, and all that follows the refusal in its answer is 0, whatever is said of it below,
+ * save the shift of a refused recording, which is the one given.
  * `energy_listing` answers no struct and refuses nothing: it writes the refusal of a file as text.
  *
  * A list is a pointer and then its length in entries. It must be aligned and valid for that length, and not null even
@@ -44,33 +45,42 @@ extern "C" {
 /* The most frames of a request. */
 #define ENERGY_MAX_FRAMES 2976
 
-/* The most bytes of a word file. */
-#define ENERGY_MAX_FILE_BYTES 11920
+/* The bytes of the word file of a request of k frames, and the most bytes of a word file: those of the most frames,
+ * spelt out, since bindgen expands no macro with an argument. */
+#define ENERGY_FILE_BYTES(k) (4 * ((k) + 4))
+#define ENERGY_MAX_FILE_BYTES (4 * (ENERGY_MAX_FRAMES + 4))
 
 /* The largest capacity, and the largest harvest of a frame. */
 #define ENERGY_MAX_CAPACITY 1000000000
 #define ENERGY_MAX_HARVEST 400000
 
-/* Room for any listing. */
-#define ENERGY_LISTING_BYTES 81920
-
-/* The bytes of the word file of a request of k frames. */
-#define ENERGY_FILE_BYTES(k) (4 * ((k) + 4))
+/* Room for any listing: a line of at most 50 bytes, one of at most 27 for each frame, and one of at most 42. */
+#define ENERGY_LISTING_BYTES (50 + 27 * ENERGY_MAX_FRAMES + 42)
 
 /* The tracer's verdicts. */
 #define ENERGY_FEASIBLE 0
 #define ENERGY_END_TOO_LOW 1
 #define ENERGY_BELOW_ZERO 2
 
-struct EnergyPlanAnswer {
+/* A request's capacity, start charge and end charge. */
+struct EnergyFigures {
+    uint32_t capacity;
+    uint32_t start;
+    uint32_t end;
+};
+
+struct EnergyRefusal {
     uint32_t number;
     uint64_t p;
 };
 
+struct EnergyPlanAnswer {
+    struct EnergyRefusal refusal;
+};
+
 /* capacity: the needed capacity; it may exceed the limit on capacities. */
 struct EnergyNeededAnswer {
-    uint32_t number;
-    uint64_t p;
+    struct EnergyRefusal refusal;
     uint64_t capacity;
 };
 
@@ -78,87 +88,102 @@ struct EnergyNeededAnswer {
  * frame: with ENERGY_BELOW_ZERO the earliest frame, from 1, whose charge is below zero; otherwise 0. A charge below zero
  * after the last frame alone is ENERGY_END_TOO_LOW. */
 struct EnergyTraceAnswer {
-    uint32_t number;
-    uint64_t p;
+    struct EnergyRefusal refusal;
     uint32_t verdict;
     uint32_t frame;
 };
 
 /* The sums of house curves 0, 1 and 2. */
-struct EnergyGradeAnswer {
-    uint32_t number;
-    uint64_t p;
+struct EnergySums {
     uint64_t curve0;
     uint64_t curve1;
     uint64_t curve2;
 };
 
-/* A shift's record: K, frames recorded, capacity, start and end charge, present charge, and the totals so far. */
-struct EnergyShift {
+struct EnergyGradeAnswer {
+    struct EnergyRefusal refusal;
+    struct EnergySums sums;
+};
+
+/* What a shift was started from: K, capacity, start and end charge. */
+struct EnergyTerms {
     uint32_t frames;
-    uint32_t recorded;
     uint32_t capacity;
     uint32_t start;
     uint32_t end;
-    uint32_t charge;
+};
+
+/* Sums over the recorded frames. */
+struct EnergyTotals {
     uint64_t harvested;
     uint64_t used;
     uint64_t lost;
 };
 
+/* How a shift stands: frames recorded, charge, and the totals so far. */
+struct EnergyPresent {
+    uint32_t recorded;
+    uint32_t charge;
+    struct EnergyTotals totals;
+};
+
+/* A shift's record. */
+struct EnergyShift {
+    struct EnergyTerms terms;
+    struct EnergyPresent now;
+};
+
 struct EnergyShiftAnswer {
-    uint32_t number;
-    uint64_t p;
+    struct EnergyRefusal refusal;
     struct EnergyShift shift;
 };
 
-/* is_short: 1 if no assignment of the rest is feasible, and then missing is end less charge less remaining harvest. */
+/* is_short: 1 if no assignment of the rest is feasible, and then missing is end less charge less remaining harvest;
+ * otherwise both are 0. */
 struct EnergyRestAnswer {
-    uint32_t number;
-    uint64_t p;
+    struct EnergyRefusal refusal;
     uint32_t is_short;
     uint64_t missing;
 };
 
 /* The part of the budgets from index `from` on, `length` entries. */
 struct EnergyPartAnswer {
-    uint32_t number;
-    uint64_t p;
-    uint64_t from;
-    uint64_t length;
+    struct EnergyRefusal refusal;
+    size_t from;
+    size_t length;
 };
 
-/* frames: the file's count of harvests, K. */
+/* What a file says before its harvests, and frames: its count of harvests, K. */
+struct EnergyHeader {
+    struct EnergyFigures figures;
+    size_t frames;
+};
+
 struct EnergyReadAnswer {
-    uint32_t number;
-    uint64_t p;
-    uint32_t capacity;
-    uint32_t start;
-    uint32_t end;
-    uint32_t frames;
+    struct EnergyRefusal refusal;
+    struct EnergyHeader header;
 };
 
 /* bytes: how many bytes were written. */
 struct EnergyWriteAnswer {
-    uint32_t number;
-    uint64_t p;
-    uint64_t bytes;
+    struct EnergyRefusal refusal;
+    size_t bytes;
 };
 
 /* Writes the plan of a request into `budgets`, which has an entry for each harvest.
- * Refuses 1, 2, 7, 3, 4, 5, 6, 9, in this order. */
-struct EnergyPlanAnswer energy_plan(uint32_t capacity, uint32_t start, uint32_t end,
+ * Refuses 1, 2, 7, 3, 4, 5, 6, 9. */
+struct EnergyPlanAnswer energy_plan(struct EnergyFigures figures,
                                     const uint32_t *harvest, size_t harvest_length,
                                     uint32_t *budgets, size_t budgets_length);
 
 /* The least capacity, at least start and end, with which every good reward table is served as well as with unlimited
- * storage. Refuses 1, 2, 3, 6, 9. */
-struct EnergyNeededAnswer energy_needed(uint32_t start, uint32_t end,
+ * storage; the capacity of the figures plays no part. Refuses 1, 2, 3, 6, 9. */
+struct EnergyNeededAnswer energy_needed(struct EnergyFigures figures,
                                         const uint32_t *harvest, size_t harvest_length);
 
 /* Writes the charge after each frame under any budgets into `charges`, below zero included, and judges the budgets.
  * Refuses 1, 2, 7 (either list), 3, 4, 5, 6. */
-struct EnergyTraceAnswer energy_trace(uint32_t capacity, uint32_t start, uint32_t end,
+struct EnergyTraceAnswer energy_trace(struct EnergyFigures figures,
                                       const uint32_t *harvest, size_t harvest_length,
                                       const uint32_t *budgets, size_t budgets_length,
                                       int64_t *charges, size_t charges_length);
@@ -167,7 +192,7 @@ struct EnergyTraceAnswer energy_trace(uint32_t capacity, uint32_t start, uint32_
 struct EnergyGradeAnswer energy_grade(const uint32_t *budgets, size_t budgets_length);
 
 /* Starts a shift from a request. Refuses 1, 2, 3, 4, 5, 6, 9. */
-struct EnergyShiftAnswer energy_shift_start(uint32_t capacity, uint32_t start, uint32_t end,
+struct EnergyShiftAnswer energy_shift_start(struct EnergyFigures figures,
                                             const uint32_t *harvest, size_t harvest_length);
 
 /* Records the actual harvest and use of the next frame, and hands the shift back as it stands after that frame.
@@ -185,14 +210,14 @@ struct EnergyRestAnswer energy_shift_plan_rest(struct EnergyShift shift,
 struct EnergyPartAnswer energy_shift_rest_part(struct EnergyShift shift,
                                                const uint32_t *budgets, size_t budgets_length);
 
-/* Reads a word file: its figures into the answer, its harvests into `harvest`, whose surplus keeps its values.
+/* Reads a word file: its header into the answer, its harvests into `harvest`, whose surplus keeps its values.
  * Refuses 2 (the file's size), 8, 2 (its frames), 7 if `harvest` is too short; it checks nothing else. */
 struct EnergyReadAnswer energy_read(const uint8_t *file, size_t file_length,
                                     uint32_t *harvest, size_t harvest_length);
 
 /* Writes the word file of a request into `file`, ENERGY_FILE_BYTES(K) bytes; its surplus keeps its values.
  * Refuses 1, 2, 7 if `file` is too short, 3, 4, 5, 6. */
-struct EnergyWriteAnswer energy_write(uint32_t capacity, uint32_t start, uint32_t end,
+struct EnergyWriteAnswer energy_write(struct EnergyFigures figures,
                                       const uint32_t *harvest, size_t harvest_length,
                                       uint8_t *file, size_t file_length);
 

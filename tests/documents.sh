@@ -37,15 +37,38 @@ while IFS='|' read -r start _ names file _; do
     done
 done <docs/READING.md
 
-# the inner functions that READING lists are those that the crates hand on, save their entries
-inner=$(sed -n '/^### Inner functions/,/^## /p' docs/READING.md | awk -F'|' '/^\| `/ { crate = $2; gsub(/[` ]/, "", crate); n = split($3, names, ","); for (i = 1; i <= n; i++) { gsub(/[` ]/, "", names[i]); print crate, names[i] } }' | sort)
-handed_on=$(for crate in request certifier leveller listing wordfile; do sed -n "s/^pub use [a-z]*::\([a-z_]*\);\$/$crate \1/p" crates/$crate/src/lib.rt; done | grep -vxE 'listing list|wordfile (read|write)' | sort)
-[ "$inner" = "$handed_on" ]
-verdict $? "READING: inner functions differ from what request, certifier, leveller, listing and wordfile hand on"
-for crate in request certifier leveller listing wordfile; do
-    ! grep -qE '^pub (mod|fn)|^pub use .*[{*]' crates/$crate/src/lib.rt
-    verdict $? "$crate hands on more than single names"
-done
+# names_in TABLE: 'crate name' for every name in READING's table with this head: the crate is the first cell, or begins the second one's path
+names_in() {
+    awk -F'|' -v head="$1" '
+        $0 == head { inside = 1; next }
+        !/^\|/ { inside = 0 }
+        !inside || $2 ~ /^-+$/ { next }
+        { crate = $2; names = $3 }
+        head ~ /^\| entry / { crate = $3; names = $2 }
+        { gsub(/[` ]|\/.*/, "", crate); gsub(/[` ]/, "", names) }
+        { n = split(names, each, ","); for (i = 1; i <= n; i++) print crate, each[i] }' docs/READING.md | sort
+}
+
+# handed_on CRATE: 'crate name' for every function that other crates can call, by name or in a public module
+handed_on() {
+    local source=crates/$1/src module
+    sed -n 's/^pub use [a-z_]*::\([a-z_]*\);$/\1/p; s/^pub fn \([a-z_]*\)[(<].*/\1/p' "$source/lib.rt"
+    for module in $(sed -n 's/^pub mod \([a-z_]*\);$/\1/p' "$source/lib.rt"); do
+        sed -n 's/^pub fn \([a-z_]*\)[(<].*/\1/p' "$source/$module.rt"
+    done
+}
+
+# every function that a crate hands on is an entry or an inner function of READING, save what energy has for C, and none is missing
+public=$(for lib in crates/*/src/lib.rt; do
+    crate=${lib#crates/}
+    crate=${crate%%/*}
+    [ "$crate" = energy ] || handed_on "$crate" | sed "s/^/$crate /"
+done | sort)
+listed=$( (names_in '| entry | code | promise |'; names_in '| crate | functions | condition |') | grep -vE '^energy |::' | sort)
+differing=$(diff <(echo "$listed") <(echo "$public") | grep '^[<>]')
+verdict $((${#differing} > 0)) "READING: entries and inner functions (<) and what the crates hand on (>) differ:"$'\n'"$differing"
+! grep -nE '^pub use .*[{*]' crates/*/src/lib.rt
+verdict $? 'a crate hands on more than single names'
 
 for program in plan day; do
     [[ $(cat README.md) == *"$(cat crates/$program/stdout)"* ]]

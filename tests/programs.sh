@@ -10,6 +10,10 @@ trap 'rm -rf "$folder"' EXIT
 
 rt check plan >"$folder/build" 2>&1 || { cat "$folder/build"; echo '0 passed, 1 failed'; exit 1; }
 
+# the limits that the header names
+most=$(sed -n 's/^#define ENERGY_MAX_FRAMES \([0-9]*\)$/\1/p' include/energy.h)
+bytes=$((4 * (most + 4)))
+
 # words as bytes, the lowest byte first: word 9 0x40000001 ..
 word() {
     local w
@@ -85,13 +89,13 @@ check 'end above capacity' 'refused 5 0' "$(word 9 0 10 0x40000001 0xC0000001 | 
 check 'out of reach' 'refused 9 1' "$(word 8 3 8 0x40000004 0xC0000001 | plan)"
 
 # the limits of the file's size
-(word 9 0 0; harvests 2976 1; word $((0xC0000000 + 2976))) >"$folder/full"
-check 'size of a full file' 11920 "$(wc -c <"$folder/full")"
-check '2,976 frames' 'frames 2976 capacity 9 needed 0' "$(plan <"$folder/full" | head -n 1)"
-check '2,976 frames: lines' 2978 "$(plan <"$folder/full" | wc -l)"
-check '11,921 bytes' 'refused 2 0' "$( (cat "$folder/full"; printf 'x') | plan)"
-check '11,920 bytes of no file' 'refused 8 0' "$(head -c 11920 /dev/zero | tr '\0' '\377' | plan)"
-check '11,921 bytes of no file' 'refused 2 0' "$(head -c 11921 /dev/zero | tr '\0' '\377' | plan)"
+(word 9 0 0; harvests "$most" 1; word $((0xC0000000 + most))) >"$folder/full"
+check 'size of a full file' "$bytes" "$(wc -c <"$folder/full")"
+check 'the most frames' "frames $most capacity 9 needed 0" "$(plan <"$folder/full" | head -n 1)"
+check 'the most frames: lines' $((most + 2)) "$(plan <"$folder/full" | wc -l)"
+check 'the most bytes and one more' 'refused 2 0' "$( (cat "$folder/full"; printf 'x') | plan)"
+check 'the most bytes of no file' 'refused 8 0' "$(head -c "$bytes" /dev/zero | tr '\0' '\377' | plan)"
+check 'the most bytes of no file and one more' 'refused 2 0' "$(head -c $((bytes + 1)) /dev/zero | tr '\0' '\377' | plan)"
 check 'an endless input' 'refused 2 0' "$(timeout 20 $bin/plan </dev/zero)"
 check 'an input in small pieces' "$listing" "$(while IFS= read -r -d '' -n 1 b || [ -n "$b" ]; do if [ -n "$b" ]; then printf '%s' "$b"; else printf '\0'; fi; done <"$folder/listing" | plan)"
 

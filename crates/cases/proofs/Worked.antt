@@ -2,10 +2,58 @@
 use mathlib.Core.Path.{refl}
 use Rattle.model.specs.Frames.{reserve, largest, budget, plan, requirement, peak}
 use Rattle.model.specs.Plan.{framesOf, planOf, openPlan, neededOf}
-use Rattle.listing.specs.Decimal.{places, decimal}
+use Rattle.text.specs.Decimal.{places, decimal}
+use Rattle.text.specs.Line.{lineOf}
 use Rattle.cases.specs.Cases.{AllHold, cases}
 
 pub worked-cases : AllHold cases
-unfolding places decimal planOf openPlan neededOf framesOf plan budget largest reserve requirement peak
-worked-cases =
-    (refl, ((refl, refl), (refl, ((refl, refl), ((refl, refl, refl), ((refl, refl), ((refl, refl), ((refl, refl), ((refl, refl, refl), ((refl, refl), ((refl, refl), ((refl, refl), ((refl, refl), (refl, (refl, ((refl, refl), ((refl, refl), ((refl, refl, refl), (refl, ((refl, refl, refl), ((refl, refl), tt)))))))))))))))))))))
+unfolding places decimal lineOf planOf openPlan neededOf framesOf plan budget largest reserve requirement peak
+worked-cases = (
+  refl,
+  (
+    (refl, refl),
+    (
+      refl,
+      (
+        (refl, refl),
+        (
+          (refl, refl, refl),
+          (
+            (refl, refl),
+            (
+              (refl, refl),
+              (
+                (refl, refl),
+                (
+                  (refl, refl, refl),
+                  (
+                    (refl, refl),
+                    (
+                      (refl, refl),
+                      (
+                        (refl, refl),
+                        (
+                          (refl, refl),
+                          (
+                            refl,
+                            (
+                              refl,
+                              (
+                                (refl, refl),
+                                ((refl, refl), ((refl, refl, refl), (refl, ((refl, refl, refl), ((refl, refl), tt))))),
+                              ),
+                            ),
+                          ),
+                        ),
+                      ),
+                    ),
+                  ),
+                ),
+              ),
+            ),
+          ),
+        ),
+      ),
+    ),
+  ),
+)

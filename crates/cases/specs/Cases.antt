@@ -6,7 +6,7 @@ use Prim.Native.Nat.{ℕ, _+_}
 use Prim.Native.String.{String}
 use lib.ListN.{length}
 use Rattle.model.specs.declared.Refusal.{Refusal}
-use Rattle.model.specs.Request.{Request, request, frameCount}
+use Rattle.model.specs.Request.{Request, request, figures, frameCount}
 use Rattle.model.specs.Refusals.{refusal, none, planRefusal, neededRefusal}
 use Rattle.model.specs.Charge.{charges}
 use Rattle.model.specs.Trace.{trace, Verdict, below-zero, verdict}
@@ -14,10 +14,10 @@ use Rattle.model.specs.Curves.{houseCurve, grade}
 use Rattle.model.specs.Plan.{planOf, neededOf}
 use Rattle.shift.specs.declared.Shift.{Shift}
 use Rattle.shift.specs.Shift.{started, recordRefusal, recordedBy}
-use Rattle.shift.specs.Rest.{restRequest, restRefusal, restBudgets}
+use Rattle.rest.specs.Rest.{restRequest, restRefusal, restBudgets}
 use Rattle.wordfile.specs.File.{fileWords, fileBytes, requestIn, readRefusal}
-use Rattle.listing.specs.Text as text
-use Rattle.cases.specs.Ascii.{ascii}
+use Rattle.printed.specs.Text as text
+use Rattle.text.specs.Ascii.{ascii}
 
 pub data Case : Type 0 where
   -- a request and its plan
@@ -51,23 +51,30 @@ Holds (refused r f) = planRefusal r (frameCount r) ≡ f
 Holds (worths bs x y z) = (grade (houseCurve 0) bs ≡ x) × (grade (houseCurve 1) bs ≡ y) × (grade (houseCurve 2) bs ≡ z)
 Holds (traces r bs zs v) = (trace r bs ≡ zs) × (verdict r bs ≡ v)
 Holds (records s h u x l) =
-    (recordRefusal s h u ≡ none) × (recordedBy s h u .charge ≡ x) × (recordedBy s h u .lost ≡ s .lost + l)
+    (recordRefusal s h u ≡ none)
+    × (recordedBy s h u .now .charge ≡ x)
+    × (recordedBy s h u .now .totals .lost ≡ s .now .totals .lost + l)
 Holds (unrecorded s h u f) = recordRefusal s h u ≡ f
 Holds (rests s hs bs) = (restRefusal s hs (length hs) ≡ none) × (restBudgets (restRequest s hs) ≡ bs)
-Holds (words r ws) = (fileWords r ≡ ws) × (readRefusal (fileBytes r) (frameCount r) ≡ none) × (requestIn (fileBytes r) ≡ r)
+Holds (words r ws) =
+    (fileWords r ≡ ws) × (readRefusal (fileBytes r) (frameCount r) ≡ none) × (requestIn (fileBytes r) ≡ r)
 Holds (prints r t) = text.listing (fileBytes r) ≡ ascii t
 
 abbrev pub AllHold : List Case → Type 0
 AllHold [] = Unit {0}
 AllHold (c ∷ cs) = Holds c × AllHold cs
 
+-- a request of that capacity, start, end and harvests
+abbrev pub asked : ℕ → ℕ → ℕ → List ℕ → Request
+asked c s e hs = request (figures c s e) hs
+
 -- the request of the listing, with a capacity
 abbrev pub listing : ℕ → Request
-listing c = request c 2 2 (6 ∷ 4 ∷ 0 ∷ 0 ∷ 5 ∷ 5 ∷ [])
+listing c = asked c 2 2 (6 ∷ 4 ∷ 0 ∷ 0 ∷ 5 ∷ 5 ∷ [])
 
 -- a shift of one frame with charge 4 and capacity 5
 abbrev pub four : Shift
-four = started (request 5 4 0 (3 ∷ []))
+four = started (asked 5 4 0 (3 ∷ []))
 
 abbrev pub cases : List Case
 cases =
@@ -77,17 +84,19 @@ cases =
     ∷ needs (listing 5) 6
     ∷ worths (4 ∷ 3 ∷ 3 ∷ 2 ∷ 4 ∷ 4 ∷ []) 320 480 100
     ∷ plans (listing 6) (3 ∷ 3 ∷ 3 ∷ 3 ∷ 4 ∷ 4 ∷ [])
-    ∷ plans (request 9 0 0 (1 ∷ 2 ∷ [])) (1 ∷ 2 ∷ [])
-    ∷ needs (request 9 0 0 (1 ∷ 2 ∷ [])) 0
-    ∷ words (request 9 0 0 (1 ∷ 2 ∷ [])) (0x00000009 ∷ 0x00000000 ∷ 0x00000000 ∷ 0x40000001 ∷ 0x40000002 ∷ 0xC0000002 ∷ [])
-    ∷ plans (request 9 0 0 (2 ∷ 1 ∷ [])) (2 ∷ 1 ∷ [])
-    ∷ plans (request 10 10 0 (0 ∷ [])) (10 ∷ [])
-    ∷ needs (request 10 10 0 (0 ∷ [])) 10
-    ∷ plans (request 8 3 7 (4 ∷ [])) (0 ∷ [])
-    ∷ refused (request 8 3 8 (4 ∷ [])) (refusal 9 1)
-    ∷ prints (request 8 3 8 (4 ∷ [])) "refused 9 1\n"
-    ∷ plans (request 0 0 0 (5 ∷ [])) (5 ∷ [])
-    ∷ traces (listing 22) (4 ∷ 4 ∷ 4 ∷ 4 ∷ 2 ∷ 2 ∷ []) (pos 4 ∷ pos 4 ∷ pos 0 ∷ negsuc 3 ∷ negsuc 0 ∷ pos 2 ∷ []) (below-zero 4)
+    ∷ plans (asked 9 0 0 (1 ∷ 2 ∷ [])) (1 ∷ 2 ∷ [])
+    ∷ needs (asked 9 0 0 (1 ∷ 2 ∷ [])) 0
+    ∷ words (asked 9 0 0 (1 ∷ 2 ∷ []))
+    (0x00000009 ∷ 0x00000000 ∷ 0x00000000 ∷ 0x40000001 ∷ 0x40000002 ∷ 0xC0000002 ∷ [])
+    ∷ plans (asked 9 0 0 (2 ∷ 1 ∷ [])) (2 ∷ 1 ∷ [])
+    ∷ plans (asked 10 10 0 (0 ∷ [])) (10 ∷ [])
+    ∷ needs (asked 10 10 0 (0 ∷ [])) 10
+    ∷ plans (asked 8 3 7 (4 ∷ [])) (0 ∷ [])
+    ∷ refused (asked 8 3 8 (4 ∷ [])) (refusal 9 1)
+    ∷ prints (asked 8 3 8 (4 ∷ [])) "refused 9 1\n"
+    ∷ plans (asked 0 0 0 (5 ∷ [])) (5 ∷ [])
+    ∷ traces (listing 22) (4 ∷ 4 ∷ 4 ∷ 4 ∷ 2 ∷ 2 ∷ []) (pos 4 ∷ pos 4 ∷ pos 0 ∷ negsuc 3 ∷ negsuc 0 ∷ pos 2 ∷ [])
+    (below-zero 4)
     ∷ records four 3 7 0 0
     ∷ unrecorded four 3 8 (refusal 21 1)
     ∷ records four 3 1 5 1

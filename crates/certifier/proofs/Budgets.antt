@@ -1,19 +1,21 @@
--- What a certified frame spends is the plan's budget, and leaves a charge between the reserves of its level and of one level more.
+-- What a certified frame spends is the plan's budget, and leaves a charge between the reserves of its level and of
+-- one level more.
 use mathlib.Core.Path.{_≡_, refl}
 use mathlib.Core.Logic.{_⊎_, ⊎-elim}
-use mathlib.Core.List.{List, _∷_}
-use Prim.Native.Nat.{ℕ, _+_, _-_, _≤_, _<_, _^_, min, max}
+use mathlib.Core.List.{List}
+use Prim.Native.Nat.{ℕ, _+_, _-_, _≤_, _<_, _^_, min}
+use native.Mathlib.Nat.{le-refl}
 use native.Mathlib.Omega.{arith}
 use lib.ListN.{length, drop, set, getD}
-use Rattle.model.specs.Frames.{Frame, reserve}
+use Rattle.model.specs.Frames.{Frame}
 use Rattle.model.proofs.Order.{le-or-lt}
-use Rattle.certifier.specs.Frame.{frame, drawn, reserveAt, Read}
-use Rattle.certifier.specs.Course.{Bounded, Within, Certified}
-use Rattle.certifier.specs.Search.{Between}
+use Rattle.certifier.specs.Frame.{drawn, reserveAt, Read}
+use Rattle.certifier.specs.Course.{Bounded, Certified}
+use Rattle.certifier.specs.Caught.{Between}
 use Rattle.certifier.specs.Steps.{Able, Stepped}
 use Rattle.certifier.specs.Says.{Spent}
 use Rattle.certifier.proofs.Reserve.{grows}
-use Rattle.certifier.proofs.Course.{First, first, onward}
+use Rattle.certifier.proofs.Course.{first, onward}
 use Rattle.certifier.proofs.Steps.{allows, stepped}
 
 -- the budget b of a frame that has a, and what it leaves, at level l
@@ -23,7 +25,18 @@ pub record Spends (e : ℕ) (fs : List Frame) (i a lo hi l b : ℕ) : Type 0 whe
   pub high : Bounded l → a - b ≤ reserveAt e fs i (l + 1)
 
 -- what a frame that has a knows of its level l, followed by the frames from i on
-module _ {e : ℕ} {fs : List Frame} {i a lo hi l b : ℕ} (bounds : lo ≤ hi) (fits : hi < 2 ^ 32) (rich : drawn lo hi l + reserveAt e fs i l ≤ a) (poor : Bounded l → a ≤ drawn lo hi (l + 1) + reserveAt e fs i (l + 1)) where
+module _ {e : ℕ} {fs : List Frame} {i a lo hi l b : ℕ} (bounds : lo ≤ hi) (fits : hi < 2 ^ 32)
+    (rich : drawn lo hi l + reserveAt e fs i l ≤ a)
+    (poor : Bounded l → a ≤ drawn lo hi (l + 1) + reserveAt e fs i (l + 1)) where
+  -- b is x, the largest that leaves a reserve, and leaves so much
+  spends-all : (x : ℕ) → b ≡ x → lo ≤ x → x ≤ hi → x ≤ a → (lo < x → x + reserveAt e fs i (x - 1) ≤ a) →
+      (x < hi → a ≤ x + reserveAt e fs i x) → reserveAt e fs i l ≤ a - x →
+      (Bounded l → a - x ≤ reserveAt e fs i (l + 1)) → Spends e fs i a lo hi l b
+  spends-all x q low high have taken refused least most =
+      let found : Between e fs i a lo hi x x =
+      record { low = low; ordered = le-refl x; high = high; have = have; taken = taken; refused = refused } in
+      rw q (record { found = found; low = least; high = most })
+
   -- the level is below the least
   spends-least : l < lo → b ≡ lo → Spends e fs i a lo hi l b
   spends-least p q =
@@ -32,12 +45,8 @@ module _ {e : ℕ} {fs : List Frame} {i a lo hi l b : ℕ} (bounds : lo ≤ hi) 
       let r = rw w at rich in
       let s : a ≤ lo + reserveAt e fs i (l + 1) = (rw v at poor) (omega arith) in
       let g = grows e fs i (l + 1) lo (omega arith) in
-      rw q
-      (record {
-        found = record { low = omega arith; ordered = omega arith; high = bounds; have = omega arith; taken = λ (z : lo < lo). omega arith; refused = λ _. omega arith };
-        low = omega arith;
-        high = λ _. omega arith;
-      })
+      spends-all lo q (omega arith) bounds (omega arith) (λ (z : lo < lo). omega arith) (λ _. omega arith)
+      (omega arith) (λ _. omega arith)
 
   -- the level is at or above the most
   spends-most : lo ≤ l → hi ≤ l → b ≡ hi → Spends e fs i a lo hi l b
@@ -47,12 +56,8 @@ module _ {e : ℕ} {fs : List Frame} {i a lo hi l b : ℕ} (bounds : lo ≤ hi) 
       let r = rw w at rich in
       let s = rw v at poor in
       let g = grows e fs i (hi - 1) l (omega arith) in
-      rw q
-      (record {
-        found = record { low = bounds; ordered = omega arith; high = omega arith; have = omega arith; taken = λ _. omega arith; refused = λ (z : hi < hi). omega arith };
-        low = omega arith;
-        high = λ (z : Bounded l). omega (arith, s z);
-      })
+      spends-all hi q bounds (omega arith) (omega arith) (λ _. omega arith) (λ (z : hi < hi). omega arith)
+      (omega arith) (λ (z : Bounded l). omega (arith, s z))
 
   -- the level is inside the bounds
   module _ (k : lo ≤ l) (p : l < hi) where
@@ -61,12 +66,8 @@ module _ {e : ℕ} {fs : List Frame} {i a lo hi l b : ℕ} (bounds : lo ≤ hi) 
         let w : drawn lo hi (l + 1) ≡ l + 1 = omega arith in
         let s : a ≤ l + 1 + reserveAt e fs i (l + 1) = (rw w at poor) (omega arith) in
         let z : l + 1 - 1 ≡ l = omega arith in
-        rw q
-        (record {
-          found = record { low = omega arith; ordered = omega arith; high = omega arith; have = omega arith; taken = λ _. rw z (omega arith); refused = λ _. s };
-          low = omega arith;
-          high = λ _. omega arith;
-        })
+        spends-all (l + 1) q (omega arith) (omega arith) (omega arith) (λ _. rw z (omega arith)) (λ _. s)
+        (omega arith) (λ _. omega arith)
 
     spends-level : a ≤ l + reserveAt e fs i l → b ≡ l → Spends e fs i a lo hi l b
     spends-level h q =
@@ -74,12 +75,7 @@ module _ {e : ℕ} {fs : List Frame} {i a lo hi l b : ℕ} (bounds : lo ≤ hi) 
         let r = rw w at rich in
         let g = grows e fs i (l - 1) l (omega arith) in
         let u = grows e fs i l (l + 1) (omega arith) in
-        rw q
-        (record {
-          found = record { low = k; ordered = omega arith; high = omega arith; have = omega arith; taken = λ _. omega arith; refused = λ _. h };
-          low = omega arith;
-          high = λ _. omega arith;
-        })
+        spends-all l q k (omega arith) (omega arith) (λ _. omega arith) (λ _. h) (omega arith) (λ _. omega arith)
 
   -- in every case
   pub spends : (v : ℕ) → v ≡ reserveAt e fs i l → Spent lo hi a l v b → Spends e fs i a lo hi l b
@@ -97,13 +93,6 @@ module _ {e : ℕ} {fs : List Frame} {i a lo hi l b : ℕ} (bounds : lo ≤ hi) 
       (λ (k : l < lo). spends-least k (s .at-least k))
       (le-or-lt lo l)
 
--- what a frame has beyond its drain, from what its level needs
-off-drain-rich : (d x r room : ℕ) → d + x + r ≤ room → x + r ≤ room - d
-off-drain-rich d x r room p = omega arith
-
-off-drain-poor : (d x r room : ℕ) → room ≤ d + x + r → room - d ≤ x + r
-off-drain-poor d x r room p = omega arith
-
 -- one frame of the forward pass: b is a step of the plan, and the levels are certified again for what is left
 pub record Follows (e : ℕ) (fs : List Frame) (i y a b : ℕ) (ls rs : List ℕ) : Type 0 where
   pub step : Stepped e fs i y b (a - b)
@@ -111,24 +100,23 @@ pub record Follows (e : ℕ) (fs : List Frame) (i y a b : ℕ) (ls rs : List ℕ
   pub have : b ≤ a
   pub charge-fits : a - b ≤ 2 ^ 33
 
-pub follows : {e : ℕ} {fs : List Frame} {i y h m d lo hi a b l v : ℕ} (ls rs : List ℕ) → Read fs i h m d lo hi → Able e fs i y →
-    a ≡ min m (y + h) - d → i < length ls → i < length rs → Certified e y fs i ls rs → l ≡ getD ls i 0 → v ≡ getD rs i 0 →
+pub follows : {e : ℕ} {fs : List Frame} {i y h m d lo hi a b l v : ℕ} (ls rs : List ℕ) → Read fs i h m d lo hi →
+    Able e fs i y →
+    a ≡ min m (y + h) - d → i < length ls → i < length rs → Certified e y fs i ls rs → l ≡ getD ls i 0 →
+    v ≡ getD rs i 0 →
     Spent lo hi a l v b → Follows e fs i y a b ls rs
 unfolding reserveAt
-follows {e} {fs} {i} {y} {h} {m} {d} {lo} {hi} {a} {b} ls rs read able has level after certified is-level is-after spent =
+follows {e} {fs} {i} {y} {h} {m} {d} {lo} {hi} {a} {b} ls rs read able has level after certified is-level is-after
+    spent =
     let c = first ls rs read level after certified in
     let l = getD ls i 0 in
     let rest = drop (i + 1) fs in
-    let s = spends {e = e} {fs = fs} {i = i + 1} {a = a} {lo = lo} {hi = hi} {l = l} {b = b} (allows e read able .bounds) (read .plain .most-fits)
-    (rw has (off-drain-rich d (drawn lo hi l) (reserve e l rest) (min m (y + h)) (c .within .rich)))
-    (λ k. rw has (off-drain-poor d (drawn lo hi (l + 1)) (reserve e (l + 1) rest) (min m (y + h)) (c .within .poor k)))
-    (getD rs i 0) (c .after) (rw (is-level, is-after) at spent) in
+    let s = spends {e = e} {fs = fs} {i = i + 1} {a = a} {lo = lo} {hi = hi} {l = l} {b = b}
+    (allows e read able .bounds) (read .plain .most-fits) (omega (arith, has, c .within .rich))
+    (λ k. omega (arith, has, c .within .poor k)) (getD rs i 0) (c .after) (rw (is-level, is-after) at spent) in
     record {
       step = stepped read able has (s .found) refl;
       certified = onward ls rs b (a - b) c (s .low) (s .high);
       have = s .found .have;
-      charge-fits = has-fits m y h d a b has (read .plain .ceiling-fits);
+      charge-fits = omega (arith, has, read .plain .ceiling-fits);
     }
-  where
-    has-fits : (m y h d a b : ℕ) → a ≡ min m (y + h) - d → m ≤ 2 ^ 33 → a - b ≤ 2 ^ 33
-    has-fits m y h d a b q p = omega arith

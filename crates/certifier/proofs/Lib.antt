@@ -7,5 +7,3 @@ pub mod Weights
 pub mod Steps
 pub mod Budgets
 pub mod Requires
-pub mod Walk
-pub mod Range

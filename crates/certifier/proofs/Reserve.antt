@@ -1,4 +1,5 @@
--- The reserve of a level for the frames from a number on: what it is at a frame and at the end, and that it grows with the level.
+-- The reserve of a level for the frames from a number on: what it is at a frame and at the end, and that it grows
+-- with the level.
 use mathlib.Core.Path.{_≡_}
 use mathlib.Core.List.{List}
 use Prim.Native.Nat.{ℕ, _+_, _-_, _≤_, min}

@@ -13,14 +13,15 @@ need e l f fs = f .drain + draw f l + reserve e l fs
 abbrev pub Bounded : ℕ → Type 0
 Bounded l = l + 1 < 2 ^ 32
 
--- a frame with level l, followed by fs: it can hold what the level needs, and what comes in is not above the need of one level more;
--- a is what the level reserves after it
+-- a frame with level l, followed by fs: it can hold what the level needs, and what comes in is not above the need
+-- of one level more; a is what the level reserves after it
 pub record Steady (e : ℕ) (f : Frame) (fs : List Frame) (l a : ℕ) : Type 0 where
   pub after : a ≡ reserve e l fs
   pub rich : need e l f fs ≤ f .ceiling
   pub poor : Bounded l → min (f .ceiling) (f .inflow) ≤ need e (l + 1) f fs
 
--- the level goes from l to n before a frame with level n: it rises where the store is empty, and falls where it is full
+-- the level goes from l to n before a frame with level n: it rises where the store is empty, and falls where it is
+-- full
 pub record Turn (e : ℕ) (f : Frame) (fs : List Frame) (l n : ℕ) : Type 0 where
   pub empty : l < n → reserve e n (f ∷ fs) ≡ 0
   pub full : n < l → f .ceiling - f .inflow ≤ reserve e (n + 1) (f ∷ fs)

@@ -3,16 +3,16 @@ use mathlib.Core.Path.{_≡_}
 use mathlib.Core.Bool.{Bool, true, false}
 use mathlib.Core.List.{List}
 use Prim.Native.Nat.{ℕ, _+_, _-_, _≤_, _<_, _^_, min}
-use Rattle.model.specs.Frames.{Frame}
+use lib.ListN.{length}
+use Rattle.model.specs.Frames.{Frame, plan}
 use Rattle.model.specs.Plan.{framesOf}
 use Rattle.certifier.specs.declared.frame.Rule.{Rule}
 use Rattle.certifier.specs.declared.frame.At.{At}
 use Rattle.certifier.specs.declared.backward.Weight.{Weight}
 use Rattle.certifier.specs.declared.backward.Turned.{Turned}
-use Rattle.certifier.specs.declared.search.Range.{Range}
 use Rattle.certifier.specs.Frame.{drawn, Plain, Read}
 use Rattle.certifier.specs.Course.{Bounded, Certified}
-use Rattle.certifier.specs.Search.{Scanned, Between}
+use Rattle.certifier.specs.Steps.{Able}
 
 -- the frames of harvests by a rule
 abbrev pub frames : Rule → List ℕ → List Frame
@@ -51,10 +51,12 @@ pub record WeighedAt (f : At) (l : ℕ) (w v : Weight) : Type 0 where
   pub poor : Bounded l → min (f .ceiling) (f .inflow) ≤ f .drain + drawn (f .least) (f .most) (l + 1) + v .above
   pub gap-is : v .gap ≡ f .ceiling - f .inflow
   pub low-is : v .low ≡ min (f .ceiling - f .inflow) (f .drain + drawn (f .least) (f .most) l + v .after - f .inflow)
-  pub high-is : v .high ≡ min (f .ceiling - f .inflow) (f .drain + drawn (f .least) (f .most) (l + 1) + v .above - f .inflow)
+  pub high-is : v .high ≡ min (f .ceiling - f .inflow)
+      (f .drain + drawn (f .least) (f .most) (l + 1) + v .above - f .inflow)
   pub after-fits : v .after < 2 ^ 32
 
--- the start charge y is at least the reserve of w's level, and not above that of one level more unless the store is full
+-- the start charge y is at least the reserve of w's level, and not above that of one level more unless the store is
+-- full
 pub record StartsAt (y : ℕ) (w : Weight) : Type 0 where
   pub rich : w .low ≤ y
   pub poor : Bounded (w .level) → min y (w .gap) ≤ w .high
@@ -70,14 +72,22 @@ pub record Spent (least most a l v b : ℕ) : Type 0 where
   pub more : least ≤ l → l < most → l + v < a → b ≡ l + 1
   pub level : least ≤ l → l < most → a ≤ l + v → b ≡ l
 
--- whether level l goes on from charge y at frame i on
-abbrev pub ScannedAt : Rule → List ℕ → ℕ → ℕ → ℕ → Bool → Type 0
-ScannedAt r hs i y l ok = Scanned (r .end) (frames r hs) i y l ok
+-- harvests that can be planned by a rule from a start charge: the plan can be drawn
+pub record Startable (r : Rule) (harvest : List ℕ) (start : ℕ) : Type 0 where
+  pub small : Small r
+  pub start-fits : start < 2 ^ 32
+  pub able : Able (r .end) (frames r harvest) 0 start
 
--- g holds the budget of frame f, which has a and comes before frame i
-abbrev pub BetweenAt : Rule → List ℕ → ℕ → At → ℕ → Range → Type 0
-BetweenAt r hs i f a g = Between (r .end) (frames r hs) i a (f .least) (f .most) (g .good) (g .top)
+-- the budgets are the plan
+abbrev pub PlannedAt : Rule → List ℕ → ℕ → List ℕ → Type 0
+PlannedAt r hs start bs = bs ≡ plan (r .end) start (frames r hs)
 
--- b is the budget of frame f, which has a and comes before frame i
-abbrev pub CaughtAt : Rule → List ℕ → ℕ → At → ℕ → ℕ → Type 0
-CaughtAt r hs i f a b = Between (r .end) (frames r hs) i a (f .least) (f .most) b b
+-- what a guess is lent: a request that can be planned, a list for what is reserved after each frame, and one for
+-- levels and budgets
+abbrev pub Lent : Rule → List ℕ → ℕ → List ℕ → List ℕ → Type 0
+Lent r hs start rs bs = Startable r hs start × (length bs ≡ length hs) × (length hs ≤ length rs)
+
+-- what it gives back: lists as long as they were, and, where it answers true, the plan as budgets
+abbrev pub Tried : Rule → List ℕ → ℕ → List ℕ → List ℕ → List ℕ → List ℕ → Bool → Type 0
+Tried r hs start rs rs′ bs bs′ ok = (length rs′ ≡ length rs) × (length bs′ ≡ length bs) × (ok ≡ true →
+    PlannedAt r hs start bs′)

@@ -3,8 +3,11 @@ use super::frame::At;
 use super::frame::Rule;
 use super::frame::draw;
 use super::frame::frame_at;
-use super::number::lesser;
-use super::number::wide;
+use super::frame::gap;
+use numbers::TOP;
+use numbers::less;
+use numbers::lesser;
+use numbers::wide;
 ghost use mathlib.Core.Path.{_≡_};
 ghost use mathlib.Core.Bool.{true, false};
 ghost use Prim.Native.Nat.{_+_, _-_, _≤_, _<_, _^_, min};
@@ -12,11 +15,9 @@ ghost use lib.ListN.{length};
 ghost use Rattle.certifier.specs.Frame.{drawn};
 ghost use Rattle.certifier.specs.Says.{Small, PlainAt, Light, TurnedAt, WeighedAt, StartsAt, CertifiedAt};
 
-// The highest level there is.
-const TOP: u64 = 4294967295;
-
-// What the frames from some frame on reserve: at the level of that frame and at one level more, and a charge that no reserve is
-// above. `after` and `above` are what both levels reserve after that frame; `above` is for the contract alone.
+// What the frames from some frame on reserve: at the level of that frame and at one level more, and a charge that no
+// reserve is above. `after` and `above` are what both levels reserve after that frame; `above` is for the contract
+// alone.
 pub struct Weight {
     pub level: u64,
     pub low: u64,
@@ -64,7 +65,8 @@ fn refuse() -> Weight
     }
 }
 
-// From a frame at this level to what follows: the level may rise only where the store is empty, and fall only where it is full.
+// From a frame at this level to what follows: the level may rise only where the store is empty, and fall only where
+// it is full.
 fn turn(level: u64, w: Weight) -> Turned
     requires { ⌜ Light w ⌝ }
     ensures { λ r. ⌜ (r .low < 2 ^ 32) × (r .high < 2 ^ 32) × (r .broken ≡ false → TurnedAt level w r) ⌝ }
@@ -98,18 +100,11 @@ fn need_of(f: At, level: u64, reserve: u64) -> u64
     f.drain + draw(f.least, f.most, level) + reserve
 }
 
-// What a frame's store can take over from the frame before it.
-fn gap(f: At) -> u64
-    ensures { λ r. ⌜ r ≡ f .ceiling - f .inflow ⌝ }
-{
-    f.ceiling - lesser(f.ceiling, f.inflow)
-}
-
 // The charge before a frame from which it has what it needs, or is full.
 fn before(gap: u64, inflow: u64, need: u64) -> u64
     ensures { λ r. ⌜ r ≡ min gap (need - inflow) ⌝ }
 {
-    lesser(gap, need - lesser(need, inflow))
+    lesser(gap, less(need, inflow))
 }
 
 // Whether one level more needs less than a frame has for sure; no level is above the highest.
@@ -166,8 +161,10 @@ fn starts(start: u64, w: Weight) -> bool
 
 // Whether the levels are certified; then `after` holds what each reserves after its frame.
 pub fn certify(rule: Rule, harvest: &[u32], start: u64, levels: &[u32], after: &mut [u32]) -> bool
-    requires { ⌜ Small rule × (length (now levels) ≡ length (now harvest)) × (length (now harvest) ≤ length (now after)) ⌝ }
-    ensures { λ r. ⌜ (length (now (after .exit)) ≡ length (now (after .entry))) × (r ≡ true → CertifiedAt rule (now (harvest .entry)) start (now (levels .entry)) (now (after .exit))) ⌝ }
+    requires { ⌜ Small rule × (length (now levels) ≡ length (now harvest)) ×
+        (length (now harvest) ≤ length (now after)) ⌝ }
+    ensures { λ r. ⌜ (length (now (after .exit)) ≡ length (now (after .entry))) ×
+        (r ≡ true → CertifiedAt rule (now (harvest .entry)) start (now (levels .entry)) (now (after .exit))) ⌝ }
 {
     let mut w = past(rule.end);
     let mut k = harvest.len();

@@ -1,12 +1,13 @@
 // How a request becomes frames. `frame_at` alone knows the charge rule; all else works on any frame.
-use super::number::greater;
-use super::number::lesser;
-use super::number::wide;
+use numbers::greater;
+use numbers::less;
+use numbers::lesser;
+use numbers::wide;
 ghost use mathlib.Core.Path.{_≡_};
-ghost use Prim.Native.Nat.{_<_};
+ghost use Prim.Native.Nat.{_+_, _-_, _≤_, _<_, _^_, min};
 ghost use lib.ListN.{length};
 ghost use Rattle.certifier.specs.Frame.{drawn};
-ghost use Rattle.certifier.specs.Says.{Small, ReadAt};
+ghost use Rattle.certifier.specs.Says.{Small, ReadAt, PlainAt};
 
 // What turns harvests into frames, and the charge to end with. No budget is above `most`.
 pub struct Rule {
@@ -44,4 +45,19 @@ pub fn draw(least: u64, most: u64, level: u64) -> u64
     ensures { λ r. ⌜ r ≡ drawn least most level ⌝ }
 {
     greater(least, lesser(most, level))
+}
+
+// The charge before a frame from which its store is full: what it can take over.
+pub fn gap(f: At) -> u64
+    ensures { λ r. ⌜ r ≡ f .ceiling - f .inflow ⌝ }
+{
+    less(f.ceiling, f.inflow)
+}
+
+// What a frame has beyond its drain, from a charge.
+pub fn has(f: At, charge: u64) -> u64
+    requires { ⌜ PlainAt f × (charge ≤ 2 ^ 33) × (f .drain ≤ min (f .ceiling) (charge + f .inflow)) ⌝ }
+    ensures { λ r. ⌜ r ≡ min (f .ceiling) (charge + f .inflow) - f .drain ⌝ }
+{
+    lesser(f.ceiling, charge + f.inflow) - f.drain
 }

@@ -1,22 +1,22 @@
-// What makes a plan right: levels, one for each frame, that pass one backward check (`certify`) give the plan's budgets in one
-// forward pass (`follow`), however they were found. Besides, the plainest way to the plan (`search_all`), for levels that do
-// not pass, and what the rest of a plan requires (`peak_requirement`). All over any frames, which `frame_at` reads.
+// What makes a plan right: levels, one for each frame, that pass one backward check (`certify`) give the plan's
+// budgets in one forward pass (`follow`), however they were found (`by_levels`). Besides, what the budgets of a plan
+// require (`peak_requirement`). All over any frames, which `frame_at` reads.
+//
+// The source is Lemma 6 of Moser, Chen and Thiele, "Reward Maximization for Embedded Systems with Renewable
+// Energies": consumption rises only where the store is empty and falls only where it is full. What differs: budgets
+// are whole numbers, so a frame spends its level or one unit more, and frames may have a drain, a least and a most;
+// and what the source shows of the result of its own algorithm is tested here, on levels of which nothing is known.
 mod backward;
 mod forward;
 mod frame;
-mod number;
+mod levels;
 mod requirement;
-mod scan;
-mod search;
 
-pub use backward::certify;
-pub use forward::follow;
 pub use frame::At;
 pub use frame::Rule;
 pub use frame::draw;
 pub use frame::frame_at;
-pub use number::greater;
-pub use number::lesser;
-pub use number::wide;
+pub use frame::gap;
+pub use frame::has;
+pub use levels::by_levels;
 pub use requirement::peak_requirement;
-pub use search::search_all;

@@ -1,17 +1,9 @@
-// A short shift from its start to its last frame, on the request of document 01's listing. Before each frame the rest is planned by the
-// forecast. The sun gives other harvests, and the mills use their budget, or what is there if that is less. Each frame has two lines: the
-// plan of the rest; then its number, harvest, use, the charge after it and the loss so far. The last line has the totals.
-use shift::RecordAnswer;
+// A short shift from its start to its last frame, on the request of document 01's listing. Before each frame the rest
+// is planned by the forecast. The sun gives other harvests, and the mills use their budget, or what is there if that
+// is less. Each frame has two lines: the plan of the rest; then its number, harvest, use, the charge after it and the
+// loss so far. The last line has the totals.
+use model::Figures;
 use shift::Shift;
-use shift::StartAnswer;
-
-// The shift that recording hands back.
-fn after(answer: RecordAnswer) -> Shift {
-    match answer {
-        RecordAnswer::Recorded(s) => s,
-        RecordAnswer::Refused(_, s) => s,
-    }
-}
 
 // Writes a number and what follows it.
 fn put(n: u64, end: &[u8]) {
@@ -47,25 +39,26 @@ fn use_of(budget: u32, charge: u32, harvest: u32) -> u32 {
 
 // The frame's line.
 fn line(harvest: u32, used: u32, s: Shift) {
-    put(s.recorded as u64, b" ");
+    put(s.now.recorded as u64, b" ");
     put(harvest as u64, b" ");
     put(used as u64, b" ");
-    put(s.charge as u64, b" ");
-    put(s.lost, b"\n");
+    put(s.now.charge as u64, b" ");
+    put(s.now.totals.lost, b"\n");
 }
 
 // One frame: the rest planned, the frame recorded, and the shift as it stands after it.
 fn frame(s: Shift, forecast: &[u32], sun: u32, budgets: &mut [u32]) -> Shift {
-    shift::plan_rest(s, forecast, budgets);
+    rest::plan_rest(s, forecast, budgets);
     let mut number = 0;
     let mut p = 0;
-    let rest = shift::rest_part(s, budgets, &mut number, &mut p);
-    if rest.len() == 0 {
+    let part = rest::rest_part(s, budgets, &mut number, &mut p);
+    if part.len() == 0 {
         return s;
     }
-    list(rest);
-    let used = use_of(rest[0], s.charge, sun);
-    let t = after(s.record(sun, used));
+    list(part);
+    let used = use_of(part[0], s.now.charge, sun);
+    let answer = s.record(sun, used);
+    let t = answer.shift;
     line(sun, used, t);
     t
 }
@@ -78,16 +71,22 @@ fn run(first: Shift, forecast: &[u32], sun: &[u32], budgets: &mut [u32]) {
         s = frame(s, forecast, sun[i], budgets);
         i += 1;
     }
-    put(s.harvested, b" ");
-    put(s.used, b" ");
-    put(s.lost, b"\n");
+    put(s.now.totals.harvested, b" ");
+    put(s.now.totals.used, b" ");
+    put(s.now.totals.lost, b"\n");
 }
 
 fn main() {
     let forecast = [6u32, 4, 0, 0, 5, 5];
     let sun = [1u32, 5, 2, 0, 10, 4];
     let mut budgets = [0u32; 6];
-    if let StartAnswer::Started(s) = shift::start(5, 2, 2, &forecast) {
-        run(s, &forecast, &sun, &mut budgets);
+    let figures = Figures {
+        capacity: 5,
+        start: 2,
+        end: 2,
+    };
+    let answer = shift::start(figures, &forecast);
+    if answer.refusal.number == 0 {
+        run(answer.shift, &forecast, &sun, &mut budgets);
     }
 }

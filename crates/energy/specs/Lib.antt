@@ -1,8 +1,4 @@
--- What the exported functions promise.
-pub mod Flat
-pub mod Plan
-pub mod Needed
-pub mod Trace
-pub mod Grade
-pub mod Shifts
-pub mod Files
+-- What the exported functions promise: what the entry under each promises, of an answer told as `Flat` (of the crate
+-- answers) and `Part` say.
+pub mod Through
+pub mod Part

@@ -1,4 +1,5 @@
-// The static library for C and Rust (include/energy.h): each entry of the product under its plain name, its answer flattened to numbers.
+// The static library for C and Rust (include/energy.h): each entry of the product under its plain name, its answer
+// made into what C gets.
 pub mod files;
 pub mod grade;
 pub mod listings;

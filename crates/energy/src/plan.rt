@@ -1,32 +1,23 @@
 // The plan of a request, for C.
-ghost use Rattle.energy.specs.Plan.{EnergyPlanSays};
-use planner::plan::PlanAnswer;
+ghost use Rattle.model.specs.Request.{request};
+ghost use Rattle.planner.specs.Says.{PlanSays};
+ghost use Rattle.energy.specs.Through.{Through};
+ghost use Rattle.answers.specs.Flat.{planFlat};
+use answers::EnergyPlanAnswer;
+use answers::plan_flat;
+use model::Figures;
 use planner::plan::plan;
-
-// The answer: number 0, or the refusal.
-#[repr(C)]
-pub struct EnergyPlanAnswer {
-    pub number: u32,
-    pub p: u64,
-}
 
 // Writes the plan into the budgets.
 #[no_mangle]
 pub extern "C" fn energy_plan(
-    capacity: u32,
-    start: u32,
-    end: u32,
+    figures: Figures,
     harvest: &[u32],
     budgets: &mut [u32],
 ) -> EnergyPlanAnswer
-    ensures { λ r. ⌜ EnergyPlanSays capacity start end (now (harvest .entry)) (now (budgets .entry)) (now (budgets .exit)) r ⌝ }
+    ensures { λ r. ⌜ Through
+        (PlanSays (request figures (now (harvest .entry))) (now (budgets .entry)) (now (budgets .exit)))
+        planFlat r ⌝ }
 {
-    let answer = plan(capacity, start, end, harvest, budgets);
-    match answer {
-        PlanAnswer::Planned => EnergyPlanAnswer { number: 0, p: 0 },
-        PlanAnswer::Refused(refusal) => EnergyPlanAnswer {
-            number: refusal.number,
-            p: refusal.p,
-        },
-    }
+    plan_flat(plan(figures, harvest, budgets))
 }

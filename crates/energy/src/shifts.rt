@@ -1,92 +1,42 @@
-// The running shift, for C.
+// The running shift, for C. Starting and recording answer the struct that the entries answer.
+ghost use denote.Ref.{ptr};
 ghost use Rattle.model.specs.Request.{request};
-ghost use Rattle.energy.specs.Shifts.{EnergyStartSays, EnergyRecordSays, EnergyRestSays, EnergyPartSays};
-use shift::RecordAnswer;
-use shift::RestAnswer;
+ghost use Rattle.shift.specs.Says.{StartSays, RecordSays};
+ghost use Rattle.rest.specs.Says.{RestSays};
+ghost use Rattle.energy.specs.Through.{Through};
+ghost use Rattle.answers.specs.Flat.{restFlat};
+ghost use Rattle.energy.specs.Part.{PartIs, partFlat};
+use answers::EnergyRestAnswer;
+use answers::rest_flat;
+use model::Figures;
+use model::Refusal;
+use rest::plan_rest;
+use rest::rest_part;
 use shift::Shift;
-use shift::StartAnswer;
-use shift::plan_rest;
-use shift::rest_part;
+use shift::ShiftAnswer;
 
-// The answer of starting and recording: number 0 and the shift, or the refusal.
-#[repr(C)]
-pub struct EnergyShiftAnswer {
-    pub number: u32,
-    pub p: u64,
-    pub shift: Shift,
-}
-
-// The answer of planning the rest: number 0 and whether it is short with the missing amount, or the refusal.
-#[repr(C)]
-pub struct EnergyRestAnswer {
-    pub number: u32,
-    pub p: u64,
-    pub is_short: u32,
-    pub missing: u64,
-}
-
-// The answer about the part that is left: number 0 with its index and length, or the refusal.
+// The part of the budgets that is left: its first entry's index, and its length.
 #[repr(C)]
 pub struct EnergyPartAnswer {
-    pub number: u32,
-    pub p: u64,
-    pub from: u64,
-    pub length: u64,
+    pub refusal: Refusal,
+    pub from: usize,
+    pub length: usize,
 }
 
-// Starts a shift from a request; a refused answer's shift is all 0.
+// Starts a shift from a request.
 #[no_mangle]
-pub extern "C" fn energy_shift_start(
-    capacity: u32,
-    start: u32,
-    end: u32,
-    harvest: &[u32],
-) -> EnergyShiftAnswer
-    ensures { λ r. ⌜ EnergyStartSays (request capacity start end (now (harvest .entry))) r ⌝ }
+pub extern "C" fn energy_shift_start(figures: Figures, harvest: &[u32]) -> ShiftAnswer
+    ensures { λ r. ⌜ StartSays (request figures (now (harvest .entry))) r ⌝ }
 {
-    let answer = shift::start(capacity, start, end, harvest);
-    match answer {
-        StartAnswer::Started(shift) => EnergyShiftAnswer {
-            number: 0,
-            p: 0,
-            shift: shift,
-        },
-        StartAnswer::Refused(refusal) => EnergyShiftAnswer {
-            number: refusal.number,
-            p: refusal.p,
-            shift: Shift {
-                frames: 0,
-                recorded: 0,
-                capacity: 0,
-                start: 0,
-                end: 0,
-                charge: 0,
-                harvested: 0,
-                used: 0,
-                lost: 0,
-            },
-        },
-    }
+    shift::start(figures, harvest)
 }
 
-// Records the next frame's harvest and use; a refused answer's shift is the one given.
+// Records the next frame's harvest and use.
 #[no_mangle]
-pub extern "C" fn energy_shift_record(shift: Shift, harvest: u32, used: u32) -> EnergyShiftAnswer
-    ensures { λ r. ⌜ EnergyRecordSays shift harvest used r ⌝ }
+pub extern "C" fn energy_shift_record(shift: Shift, harvest: u32, used: u32) -> ShiftAnswer
+    ensures { λ r. ⌜ RecordSays shift harvest used r ⌝ }
 {
-    let answer = shift.record(harvest, used);
-    match answer {
-        RecordAnswer::Recorded(next) => EnergyShiftAnswer {
-            number: 0,
-            p: 0,
-            shift: next,
-        },
-        RecordAnswer::Refused(refusal, given) => EnergyShiftAnswer {
-            number: refusal.number,
-            p: refusal.p,
-            shift: given,
-        },
-    }
+    shift.record(harvest, used)
 }
 
 // Plans the frames not yet recorded.
@@ -96,52 +46,38 @@ pub extern "C" fn energy_shift_plan_rest(
     harvest: &[u32],
     budgets: &mut [u32],
 ) -> EnergyRestAnswer
-    ensures { λ r. ⌜ EnergyRestSays shift (now (harvest .entry)) (now (budgets .entry)) (now (budgets .exit)) r ⌝ }
+    ensures { λ r. ⌜ Through
+        (RestSays shift (now (harvest .entry)) (now (budgets .entry)) (now (budgets .exit)))
+        restFlat r ⌝ }
 {
-    let answer = plan_rest(shift, harvest, budgets);
-    match answer {
-        RestAnswer::Planned => EnergyRestAnswer {
-            number: 0,
-            p: 0,
-            is_short: 0,
-            missing: 0,
-        },
-        RestAnswer::Short(missing) => EnergyRestAnswer {
-            number: 0,
-            p: 0,
-            is_short: 1,
-            missing: missing,
-        },
-        RestAnswer::Refused(refusal) => EnergyRestAnswer {
-            number: refusal.number,
-            p: refusal.p,
-            is_short: 0,
-            missing: 0,
-        },
-    }
+    rest_flat(plan_rest(shift, harvest, budgets))
 }
 
 // Where the part of the budgets that begins at the next frame lies: an exported function returns no reference.
 #[no_mangle]
 pub extern "C" fn energy_shift_rest_part(shift: Shift, budgets: &[u32]) -> EnergyPartAnswer
-    ensures { λ r. ⌜ EnergyPartSays shift (now (budgets .entry)) r ⌝ }
+    ensures { λ r. ⌜ Through
+        (PartIs shift (now (budgets .entry)) (ptr (budgets .entry)))
+        (partFlat (ptr (budgets .entry))) r ⌝ }
 {
     let mut number: u32 = 0;
     let mut p: u64 = 0;
     let part = rest_part(shift, budgets, &mut number, &mut p);
-    let length = part.len() as u64;
+    let length = part.len();
+    let refusal = Refusal {
+        number: number,
+        p: p,
+    };
     if number != 0 {
         return EnergyPartAnswer {
-            number: number,
-            p: p,
+            refusal: refusal,
             from: 0,
             length: length,
         };
     }
     EnergyPartAnswer {
-        number: number,
-        p: p,
-        from: shift.recorded as u64,
+        refusal: refusal,
+        from: shift.now.recorded as usize,
         length: length,
     }
 }

@@ -29,11 +29,13 @@ gains-five (suc (suc c)) = refl
 
 -- a band that an edge ends
 pub band-more : (e x i : ℕ) (es gs : List ℕ) → i < length es → i < length gs
-    → bands e x (drop i es) (drop i gs) ≡ getD gs i 0 * (min e (getD es i 0) - x) + bands e (getD es i 0) (drop (i + 1) es) (drop (i + 1) gs)
+    → bands e x (drop i es) (drop i gs) ≡ getD gs i 0 * (min e (getD es i 0) - x) + bands e (getD es i 0)
+    (drop (i + 1) es) (drop (i + 1) gs)
 band-more e x i es gs le lg = rw (add-one i, drop-cons es i 0 le, drop-cons gs i 0 lg)
 
 -- the band past the last edge
-pub band-last : (e x i : ℕ) (es gs : List ℕ) → length es ≤ i → i < length gs → bands e x (drop i es) (drop i gs) ≡ getD gs i 0 * (min e e - x)
+pub band-last : (e x i : ℕ) (es gs : List ℕ) → length es ≤ i → i < length gs →
+    bands e x (drop i es) (drop i gs) ≡ getD gs i 0 * (min e e - x)
 band-last e x i es gs le lg =
     let u : min e e ≡ e = omega arith in
     rw (u, drop-of-length-le es {i = i} le, drop-cons gs i 0 lg)
@@ -42,9 +44,11 @@ band-last e x i es gs le lg =
 pub band-step : (c e x i sum y g u : ℕ) → i < 4
     → sum + bands e x (drop i (houseCurve c .edges)) (drop i (houseCurve c .gains)) ≡ worth (houseCurve c) e
     → y ≡ getD (houseCurve c .edges) i 0 → g ≡ getD (houseCurve c .gains) i 0 → u ≡ min e y - x
-    → sum + g * u + bands e y (drop (i + 1) (houseCurve c .edges)) (drop (i + 1) (houseCurve c .gains)) ≡ worth (houseCurve c) e
+    → sum + g * u + bands e y (drop (i + 1) (houseCurve c .edges)) (drop (i + 1) (houseCurve c .gains)) ≡ worth
+    (houseCurve c) e
 band-step c e x i sum y g u l s py pg pu =
-    let m = band-more e x i (houseCurve c .edges) (houseCurve c .gains) (omega (arith, edges-four c)) (omega (arith, gains-five c)) in
+    let m = band-more e x i (houseCurve c .edges) (houseCurve c .gains) (omega (arith, edges-four c))
+    (omega (arith, gains-five c)) in
     rw (pu, pg, py) (omega arith)
 
 -- and past the last edge
@@ -52,12 +56,14 @@ pub band-end : (c e x i sum g u : ℕ) → i ≡ 4
     → sum + bands e x (drop i (houseCurve c .edges)) (drop i (houseCurve c .gains)) ≡ worth (houseCurve c) e
     → g ≡ getD (houseCurve c .gains) 4 0 → u ≡ min e e - x → sum + g * u ≡ worth (houseCurve c) e
 band-end c e x i sum g u p s pg pu =
-    let m = band-last e x 4 (houseCurve c .edges) (houseCurve c .gains) (omega (arith, edges-four c)) (omega (arith, gains-five c)) in
+    let m = band-last e x 4 (houseCurve c .edges) (houseCurve c .gains) (omega (arith, edges-four c))
+    (omega (arith, gains-five c)) in
     let r = rw p at s in
     rw (pu, pg) (omega arith)
 
 -- one more budget of a list
-pub grade-more : (c : Curve) (i : ℕ) (bs : List ℕ) → i < length bs → grade c (drop i bs) ≡ worth c (getD bs i 0) + grade c (drop (i + 1) bs)
+pub grade-more : (c : Curve) (i : ℕ) (bs : List ℕ) → i < length bs →
+    grade c (drop i bs) ≡ worth c (getD bs i 0) + grade c (drop (i + 1) bs)
 grade-more c i bs l = rw (add-one i) (ap (grade c) (drop-cons bs i 0 l))
 
 -- every budget counted

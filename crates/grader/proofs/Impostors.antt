@@ -11,12 +11,8 @@ use Rattle.model.proofs.Outcome.{no-refusal}
 use Rattle.grader.specs.declared.GradeAnswer.the-variants.{Refused}
 use Rattle.grader.specs.Says.{GradeSays, sumsOf}
 
--- no refusal of a list of 1 to 2976 budgets
+-- no refusal of a list of budgets that is not empty and within the most frames
 pub not-refused : (bs : List ℕ) (f : Refusal) → 0 < length bs → length bs ≤ maxFrames → GradeSays bs (Refused f) → ⊥
 not-refused bs f some few p =
     no-refusal (gradeRefusal (length bs)) (sumsOf bs)
     (rw (ne-eqb (length bs) 0 (λ e. omega arith), le-ltb maxFrames (length bs) few)) f (p .answer)
-
--- so none of the listing's
-pub listed-not-refused : (f : Refusal) → GradeSays (4 ∷ 3 ∷ 3 ∷ 2 ∷ 4 ∷ 4 ∷ []) (Refused f) → ⊥
-listed-not-refused f = not-refused (4 ∷ 3 ∷ 3 ∷ 2 ∷ 4 ∷ 4 ∷ []) f (omega arith) (omega arith)

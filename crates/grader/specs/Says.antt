@@ -18,7 +18,12 @@ said (Refused f) = refuses f
 
 -- the sums of a list of budgets
 abbrev pub sumsOf : List ℕ → Sums
-sumsOf bs = record { curve0 = grade (houseCurve 0) bs; curve1 = grade (houseCurve 1) bs; curve2 = grade (houseCurve 2) bs }
+sumsOf bs = record {
+  curve0 = grade (houseCurve 0) bs;
+  curve1 = grade (houseCurve 1) bs;
+  curve2 =
+      grade (houseCurve 2) bs;
+}
 
 -- a house curve as a reward table
 abbrev pub houseTable : ℕ → ℕ → ℤ

@@ -1,15 +1,15 @@
-// The first guess: one level for all frames, the mean of what there is to draw. It takes one sum over the inflows, and many
-// requests have no other level. Where the store runs dry or overflows at it in the first frames, as before a sunrise, it is not
-// worth a certificate.
-use super::list::fill;
-use super::list::less;
-use super::list::minus;
-use super::list::over;
-use super::list::plus;
-use super::list::within;
+// The first guess: one level for all frames, the mean of what there is to draw. It takes one sum over the inflows,
+// and many requests have no other level. Where the store runs dry or overflows at it in the first frames, as before a
+// sunrise, it is not worth a certificate.
 use certifier::Rule;
 use certifier::draw;
 use certifier::frame_at;
+use numbers::fill;
+use numbers::less;
+use numbers::minus;
+use numbers::over;
+use numbers::plus;
+use numbers::within;
 ghost use mathlib.Core.Path.{_≡_};
 ghost use lib.ListN.{length};
 ghost use Rattle.certifier.specs.Says.{Small};

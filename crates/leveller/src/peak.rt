@@ -3,10 +3,11 @@ use super::plan::DAY;
 use super::plan::plan_into;
 use certifier::Rule;
 use certifier::peak_requirement;
+use model::limits::MAX_FRAMES;
 ghost use mathlib.Core.Path.{_≡_};
 ghost use lib.ListN.{length};
 ghost use Prim.Native.Nat.{_≤_};
-ghost use Rattle.leveller.specs.Plan.{Ready, PeakOf};
+ghost use Rattle.leveller.specs.Plan.{Ready, PeakOf, day};
 
 // The greatest charge that the plan requires after any frame; the plan is written into the budgets.
 fn peak_by(
@@ -31,10 +32,10 @@ fn peak_by(
 
 // The same with a list for a day.
 fn peak_day(capacity: u64, start: u64, end: u64, most: u64, harvest: &[u32]) -> u64
-    requires { ⌜ Ready capacity start end most (now harvest) × (length (now harvest) ≤ 128) ⌝ }
+    requires { ⌜ Ready capacity start end most (now harvest) × (length (now harvest) ≤ day) ⌝ }
     ensures { λ r. ⌜ PeakOf capacity start end most (now (harvest .entry)) r ⌝ }
 {
-    let mut budgets = [0u32; 128];
+    let mut budgets = [0u32; DAY];
     peak_by(
         capacity,
         start,
@@ -50,7 +51,7 @@ fn peak_month(capacity: u64, start: u64, end: u64, most: u64, harvest: &[u32]) -
     requires { ⌜ Ready capacity start end most (now harvest) ⌝ }
     ensures { λ r. ⌜ PeakOf capacity start end most (now (harvest .entry)) r ⌝ }
 {
-    let mut budgets = [0u32; 2976];
+    let mut budgets = [0u32; MAX_FRAMES];
     peak_by(
         capacity,
         start,

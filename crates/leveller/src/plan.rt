@@ -1,42 +1,24 @@
-// The plan of a request: levels are guessed, certified and followed. One level for all frames is tried first, then the string,
-// then the splitting; a guess that is not certified costs time and nothing else.
+// The plan of a request: levels are guessed, certified and followed. One level for all frames is tried first, then
+// the string, then the splitting; a guess that is not certified costs time and nothing else.
 use super::level::one_level;
-use super::split::split_levels;
-use super::string::string_levels;
 use certifier::Rule;
-use certifier::certify;
-use certifier::follow;
-use certifier::search_all;
+use certifier::by_levels;
+use model::limits::MAX_FRAMES;
+use search::search_all;
+use splitting::split_levels;
+use string::string_levels;
 ghost use mathlib.Core.Path.{_≡_};
-ghost use Prim.Native.Nat.{_≤_};
 ghost use lib.ListN.{length};
 ghost use Rattle.model.specs.Limits.{maxFrames};
 ghost use Rattle.model.specs.Frames.{plan};
 ghost use Rattle.model.specs.Plan.{framesOf};
-ghost use Rattle.leveller.specs.Plan.{Ready, Startable, Lent, Tried, PlannedAt};
+ghost use Rattle.certifier.specs.Says.{Lent, Tried, PlannedAt};
+ghost use Rattle.leveller.specs.Plan.{Ready, Few, day, week};
 
-// The most frames for which lists of 128 and of 768 numbers are taken: enough for a day and a week of quarter hours.
+// The most frames for which short lists are taken: enough for a day and a week of quarter hours.
 pub const DAY: usize = 128;
 
 const WEEK: usize = 768;
-
-// The budgets are levels: has them certified and turns them into the plan's budgets, or leaves them as they are.
-fn by_levels(
-    rule: Rule,
-    harvest: &[u32],
-    start: u64,
-    after: &mut [u32],
-    budgets: &mut [u32],
-) -> bool
-    requires { ⌜ Lent rule (now harvest) start (now after) (now budgets) ⌝ }
-    ensures { λ r. ⌜ Tried rule (now (harvest .entry)) start (now (after .entry)) (now (after .exit)) (now (budgets .entry)) (now (budgets .exit)) r ⌝ }
-{
-    if certify(rule, harvest, start, budgets, after) {
-        follow(rule, harvest, start, after, budgets);
-        return true;
-    }
-    false
-}
 
 // The plan by one level for all frames.
 fn by_one_level(
@@ -47,7 +29,8 @@ fn by_one_level(
     budgets: &mut [u32],
 ) -> bool
     requires { ⌜ Lent rule (now harvest) start (now after) (now budgets) ⌝ }
-    ensures { λ r. ⌜ Tried rule (now (harvest .entry)) start (now (after .entry)) (now (after .exit)) (now (budgets .entry)) (now (budgets .exit)) r ⌝ }
+    ensures { λ r. ⌜ Tried rule (now (harvest .entry)) start (now (after .entry)) (now (after .exit))
+        (now (budgets .entry)) (now (budgets .exit)) r ⌝ }
 {
     if one_level(rule, harvest, start, budgets) {
         return by_levels(rule, harvest, start, after, budgets);
@@ -55,36 +38,44 @@ fn by_one_level(
     false
 }
 
-// The plan by the string, whose chains stand in the other two lists.
-fn by_string(
+// Writes the plan's budgets by the splitting, which keeps the highest levels in `after` and its tries in `marks`;
+// where its levels are not certified, by a search in every frame.
+fn plan_by_splitting(
     rule: Rule,
     harvest: &[u32],
     start: u64,
     after: &mut [u32],
     marks: &mut [u32],
     budgets: &mut [u32],
-) -> bool
+)
     requires { ⌜ Lent rule (now harvest) start (now after) (now budgets) ⌝ }
-    ensures { λ r. ⌜ (length (now (marks .exit)) ≡ length (now (marks .entry))) × Tried rule (now (harvest .entry)) start (now (after .entry)) (now (after .exit)) (now (budgets .entry)) (now (budgets .exit)) r ⌝ }
-{
-    string_levels(rule, harvest, start, budgets, marks, after);
-    by_levels(rule, harvest, start, after, budgets)
-}
-
-// The plan by the splitting, which keeps the highest levels in `after` and its tries in `marks`.
-fn by_splitting(
-    rule: Rule,
-    harvest: &[u32],
-    start: u64,
-    after: &mut [u32],
-    marks: &mut [u32],
-    budgets: &mut [u32],
-) -> bool
-    requires { ⌜ Lent rule (now harvest) start (now after) (now budgets) ⌝ }
-    ensures { λ r. ⌜ (length (now (marks .exit)) ≡ length (now (marks .entry))) × Tried rule (now (harvest .entry)) start (now (after .entry)) (now (after .exit)) (now (budgets .entry)) (now (budgets .exit)) r ⌝ }
+    ensures { λ _. ⌜ PlannedAt rule (now (harvest .entry)) start (now (budgets .exit)) ⌝ }
 {
     split_levels(rule, harvest, start, budgets, after, marks);
-    by_levels(rule, harvest, start, after, budgets)
+    if by_levels(rule, harvest, start, after, budgets) {
+        return;
+    }
+    search_all(rule, harvest, start, budgets);
+}
+
+// Writes the plan's budgets by the string, whose chains stand in the other two lists; where its levels are not
+// certified, by the splitting.
+fn plan_by_string(
+    rule: Rule,
+    harvest: &[u32],
+    start: u64,
+    after: &mut [u32],
+    marks: &mut [u32],
+    budgets: &mut [u32],
+)
+    requires { ⌜ Lent rule (now harvest) start (now after) (now budgets) ⌝ }
+    ensures { λ _. ⌜ PlannedAt rule (now (harvest .entry)) start (now (budgets .exit)) ⌝ }
+{
+    string_levels(rule, harvest, start, budgets, marks, after);
+    if by_levels(rule, harvest, start, after, budgets) {
+        return;
+    }
+    plan_by_splitting(rule, harvest, start, after, marks, budgets);
 }
 
 // Writes the plan's budgets by the first guess that is certified, or by a search in every frame.
@@ -102,42 +93,36 @@ fn plan_with(
     if by_one_level(rule, harvest, start, after, budgets) {
         return;
     }
-    if by_string(rule, harvest, start, after, marks, budgets) {
-        return;
-    }
-    if by_splitting(rule, harvest, start, after, marks, budgets) {
-        return;
-    }
-    search_all(rule, harvest, start, budgets);
+    plan_by_string(rule, harvest, start, after, marks, budgets);
 }
 
 // The same with lists for a day: to clear longer ones would take as long as its plan.
 fn plan_day(rule: Rule, harvest: &[u32], start: u64, budgets: &mut [u32])
-    requires { ⌜ Startable rule (now harvest) start × (length (now budgets) ≡ length (now harvest)) × (length (now harvest) ≤ 128) ⌝ }
+    requires { ⌜ Few rule (now harvest) start (now budgets) day ⌝ }
     ensures { λ _. ⌜ PlannedAt rule (now (harvest .entry)) start (now (budgets .exit)) ⌝ }
 {
-    let mut after = [0u32; 128];
-    let mut marks = [0u32; 128];
+    let mut after = [0u32; DAY];
+    let mut marks = [0u32; DAY];
     plan_with(rule, harvest, start, &mut after, &mut marks, budgets);
 }
 
 // The same with lists for a week.
 fn plan_week(rule: Rule, harvest: &[u32], start: u64, budgets: &mut [u32])
-    requires { ⌜ Startable rule (now harvest) start × (length (now budgets) ≡ length (now harvest)) × (length (now harvest) ≤ 768) ⌝ }
+    requires { ⌜ Few rule (now harvest) start (now budgets) week ⌝ }
     ensures { λ _. ⌜ PlannedAt rule (now (harvest .entry)) start (now (budgets .exit)) ⌝ }
 {
-    let mut after = [0u32; 768];
-    let mut marks = [0u32; 768];
+    let mut after = [0u32; WEEK];
+    let mut marks = [0u32; WEEK];
     plan_with(rule, harvest, start, &mut after, &mut marks, budgets);
 }
 
 // The same with lists for all frames that a request may have.
 fn plan_month(rule: Rule, harvest: &[u32], start: u64, budgets: &mut [u32])
-    requires { ⌜ Startable rule (now harvest) start × (length (now budgets) ≡ length (now harvest)) × (length (now harvest) ≤ maxFrames) ⌝ }
+    requires { ⌜ Few rule (now harvest) start (now budgets) maxFrames ⌝ }
     ensures { λ _. ⌜ PlannedAt rule (now (harvest .entry)) start (now (budgets .exit)) ⌝ }
 {
-    let mut after = [0u32; 2976];
-    let mut marks = [0u32; 2976];
+    let mut after = [0u32; MAX_FRAMES];
+    let mut marks = [0u32; MAX_FRAMES];
     plan_with(rule, harvest, start, &mut after, &mut marks, budgets);
 }
 

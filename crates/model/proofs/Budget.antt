@@ -2,17 +2,18 @@
 use mathlib.Core.Path.{_≡_, refl, ap}
 use mathlib.Core.Logic.{_⊎_, ⊎-elim}
 use mathlib.Core.Bool.{Bool, true, false}
-use mathlib.Core.List.{List, [], _∷_}
+use mathlib.Core.List.{List}
 use Prim.Native.Nat.{ℕ, zero, suc, _+_, _-_, _≤_, _<_, min, max}
 use native.Mathlib.Nat.{le-refl}
 use native.Mathlib.Omega.{arith}
 use lib.Dec.{leb}
 use borrow.Author.Tests.{leb-true, leb-false}
-use Rattle.model.specs.Frames.{Frame, room, left, Allowed, Feasible, draw, reserve, largest, budget}
+use Rattle.model.specs.Frames.{Frame, room, reserve, largest, budget}
 use Rattle.model.proofs.Order.{le-or-lt}
 use Rattle.model.proofs.Reserve.{reserve-grows}
 
--- b is the largest budget from lo on and up to top that leaves the reserve of one level below it, of what the frame has (a)
+-- b is the largest budget from lo on and up to top that leaves the reserve of one level below it, of what the frame
+-- has (a)
 pub record IsLargest (e : ℕ) (fs : List Frame) (a lo top b : ℕ) : Type 0 where
   pub low : lo ≤ b
   pub high : b ≤ max lo top
@@ -27,7 +28,13 @@ at-level e x z fs p = ap (λ (n : ℕ). reserve e n fs) p
 pub largest-is : (e : ℕ) (fs : List Frame) (a lo n : ℕ) → IsLargest e fs a lo (lo + n) (largest e fs a lo n)
 unfolding largest
 largest-is e fs a lo zero =
-    record { low = omega arith; high = omega arith; taken = λ x p q. absurd (none x p q); refused = λ x p q. absurd (over x p q) }
+    record {
+      low = omega arith;
+      high = omega arith;
+      taken = λ x p q. absurd (none x p q);
+      refused =
+          λ x p q. absurd (over x p q);
+    }
   where
     none : (x : ℕ) → lo ≤ x → x < lo → ⊥
     none x p q = omega arith
@@ -36,7 +43,8 @@ largest-is e fs a lo zero =
     over x p q = omega arith
 largest-is e fs a lo (suc n) = go (leb (lo + suc n + reserve e (lo + n) fs) a) refl (largest-is e fs a lo n)
   where
-    go : (t : Bool) → leb (lo + suc n + reserve e (lo + n) fs) a ≡ t → IsLargest e fs a lo (lo + n) (largest e fs a lo n) →
+    go : (t : Bool) → leb (lo + suc n + reserve e (lo + n) fs) a ≡ t →
+        IsLargest e fs a lo (lo + n) (largest e fs a lo n) →
         IsLargest e fs a lo (lo + suc n) (elim t [ true ↦ lo + suc n | false ↦ largest e fs a lo n ])
     go true q i =
         record {
@@ -63,7 +71,13 @@ largest-is e fs a lo (suc n) = go (leb (lo + suc n + reserve e (lo + n) fs) a) r
 whole : (e : ℕ) (fs : List Frame) (a lo top : ℕ) → IsLargest e fs a lo top (largest e fs a lo (top - lo))
 whole e fs a lo top =
     let i = largest-is e fs a lo (top - lo) in
-    record { low = i .low; high = omega (arith, i .high); taken = i .taken; refused = λ x p q. i .refused x p (omega (arith, i .low)) }
+    record {
+      low = i .low;
+      high = omega (arith, i .high);
+      taken = i .taken;
+      refused =
+          λ x p q. i .refused x p (omega (arith, i .low));
+    }
 
 -- the plan's budget is the largest of its frame
 pub budget-is : (e y : ℕ) (f : Frame) (fs : List Frame) →
@@ -72,7 +86,8 @@ unfolding budget
 budget-is e y f fs = whole e fs (room f y - f .drain) (f .least) (min (f .most) (room f y - f .drain))
 
 -- only one number is the largest budget
-below-largest : (e : ℕ) (fs : List Frame) (a lo top b c : ℕ) → IsLargest e fs a lo top b → IsLargest e fs a lo top c → b < c → ⊥
+below-largest : (e : ℕ) (fs : List Frame) (a lo top b c : ℕ) → IsLargest e fs a lo top b → IsLargest e fs a lo top c →
+    b < c → ⊥
 below-largest e fs a lo top b c i j h =
     let low : lo ≤ b = i .low in
     let high : c ≤ max lo top = j .high in
@@ -80,7 +95,8 @@ below-largest e fs a lo top b c i j h =
     let r = i .refused b (le-refl b) (omega arith) in
     omega arith
 
-pub one-largest : (e : ℕ) (fs : List Frame) (a lo top b c : ℕ) → IsLargest e fs a lo top b → IsLargest e fs a lo top c → b ≡ c
+pub one-largest : (e : ℕ) (fs : List Frame) (a lo top b c : ℕ) → IsLargest e fs a lo top b →
+    IsLargest e fs a lo top c → b ≡ c
 one-largest e fs a lo top b c i j =
     ⊎-elim
     (λ (p : b ≤ c).
@@ -95,7 +111,8 @@ one-largest e fs a lo top b c i j =
     same b c p q = omega arith
 
 -- a budget is the largest if it leaves the reserve of one level below it and one unit more would not leave its own
-pub largest-found : (e : ℕ) (fs : List Frame) (a lo top b : ℕ) → lo ≤ b → b ≤ max lo top → (lo < b → b + reserve e (b - 1) fs ≤ a) →
+pub largest-found : (e : ℕ) (fs : List Frame) (a lo top b : ℕ) → lo ≤ b → b ≤ max lo top →
+    (lo < b → b + reserve e (b - 1) fs ≤ a) →
     (b < top → a ≤ b + reserve e b fs) → IsLargest e fs a lo top b
 largest-found e fs a lo top b low high t r =
     record {

@@ -1,4 +1,5 @@
--- A curve whose gains pass one test qualifies as a reward table; its worth is a sum of five products, one for each band.
+-- A curve whose gains pass one test qualifies as a reward table; its worth is a sum of five products, one for each
+-- band.
 use mathlib.Core.Path.{_≡_, refl, ap, sym, _∙_}
 use mathlib.Core.Bool.{Bool, true, false, _&&_}
 use mathlib.Core.List.{List, [], _∷_}
@@ -122,7 +123,8 @@ bands-by e x y g es gs r h i false p =
     rw (u, v, j) (omega arith)
 
 -- one unit more adds its gain
-bands-more : (e x : ℕ) (es gs : List ℕ) → rises x es ≡ true → x ≤ e → bands (suc e) x es gs ≡ bands e x es gs + gainAt (suc e) es gs
+bands-more : (e x : ℕ) (es gs : List ℕ) → rises x es ≡ true → x ≤ e →
+    bands (suc e) x es gs ≡ bands e x es gs + gainAt (suc e) es gs
 bands-more e x es [] r h = refl
 bands-more e x [] (g ∷ gs) r h =
     let u : suc e - x ≡ suc (e - x) = omega arith in

@@ -1,4 +1,5 @@
--- Linear facts of whole numbers by `omega`: a whole number is split into its parts above and below zero, and each operation gets one linear law.
+-- Linear facts of whole numbers by `omega`: a whole number is split into its parts above and below zero, and each
+-- operation gets one linear law.
 use mathlib.Core.Path.{_≡_, refl, ap}
 use mathlib.Core.Bool.{Bool, true, false, cond}
 use Prim.Native.Nat.{ℕ, zero, suc, _+_, _-_, _≤_, _<_, min}
@@ -19,7 +20,8 @@ down (pos n) = 0
 down (negsuc n) = suc n
 
 -- the difference of two natural numbers, by which is smaller
-sub-by : (a b : ℕ) (t : Bool) → ltb a b ≡ t → up (cond t (negsuc (b - suc a)) (pos (a - b))) + b ≡ a + down (cond t (negsuc (b - suc a)) (pos (a - b)))
+sub-by : (a b : ℕ) (t : Bool) → ltb a b ≡ t →
+    up (cond t (negsuc (b - suc a)) (pos (a - b))) + b ≡ a + down (cond t (negsuc (b - suc a)) (pos (a - b)))
 sub-by a b true e = omega (arith, ltb-true a b e)
 sub-by a b false e = omega (arith, ltb-false a b e)
 
@@ -109,26 +111,13 @@ minus-neg a b h = parts-eq (pos a -ℤ pos b) (negsuc (b - suc a)) (omega (arith
 -- differences of natural numbers are ordered as sums
 pub pos-minus-le : (a b c d : ℕ) → a + d ≤ c + b → (pos a -ℤ pos b) ≤ℤ (pos c -ℤ pos d)
 pos-minus-le a b c d h =
-    parts-le (pos a -ℤ pos b) (pos c -ℤ pos d) (omega (arith, minus-parts (pos a) (pos b), minus-parts (pos c) (pos d)))
+    parts-le (pos a -ℤ pos b) (pos c -ℤ pos d)
+    (omega (arith, minus-parts (pos a) (pos b), minus-parts (pos c) (pos d)))
 
 -- sums keep the order
 pub plus-mono : (a b c d : ℤ) → a ≤ℤ b → c ≤ℤ d → (a +ℤ c) ≤ℤ (b +ℤ d)
 plus-mono a b c d h k =
     parts-le (a +ℤ c) (b +ℤ d) (omega (arith, plus-parts a c, plus-parts b d, le-parts a b h, le-parts c d k))
-
--- the sum is commutative
-pub plus-comm : (a b : ℤ) → a +ℤ b ≡ b +ℤ a
-plus-comm a b = parts-eq (a +ℤ b) (b +ℤ a) (omega (arith, plus-parts a b, plus-parts b a))
-
--- associative
-pub plus-assoc : (a b c : ℤ) → (a +ℤ b) +ℤ c ≡ a +ℤ (b +ℤ c)
-plus-assoc a b c =
-    parts-eq ((a +ℤ b) +ℤ c) (a +ℤ (b +ℤ c))
-    (omega (arith, plus-parts a b, plus-parts (a +ℤ b) c, plus-parts b c, plus-parts a (b +ℤ c)))
-
--- and has 0 for nothing added
-pub plus-zero : (a : ℤ) → pos 0 +ℤ a ≡ a
-plus-zero a = parts-eq (pos 0 +ℤ a) a (omega (arith, plus-parts (pos 0) a))
 
 -- two sums are added part by part
 pub plus-swap : (a b c d : ℤ) → (a +ℤ b) +ℤ (c +ℤ d) ≡ (a +ℤ c) +ℤ (b +ℤ d)
@@ -143,10 +132,6 @@ plus-swap a b c d =
       plus-parts b d,
       plus-parts (a +ℤ c) (b +ℤ d),
     ))
-
--- what a difference adds back
-pub plus-minus : (a b : ℤ) → a +ℤ (b -ℤ a) ≡ b
-plus-minus a b = parts-eq (a +ℤ (b -ℤ a)) b (omega (arith, plus-parts a (b -ℤ a), minus-parts b a))
 
 -- a number at least a is a and a natural number
 pub rise-is : (a b : ℤ) → a ≤ℤ b → b ≡ pos (up (b -ℤ a)) +ℤ a

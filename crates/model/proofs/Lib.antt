@@ -1,10 +1,12 @@
 -- The theorems about the model.
 pub mod Order
 pub mod Tests
+pub mod Choice
 pub mod Integers
 pub mod Tables
 pub mod Curves
 pub mod Trace
+pub mod Machine
 pub mod Feasibility
 pub mod Reserve
 pub mod Budget
@@ -17,5 +19,6 @@ pub mod Reach
 pub mod Request
 pub mod Needed
 pub mod Peak
+pub mod First
 pub mod Refusals
 pub mod Outcome

@@ -1,9 +1,10 @@
--- Among the lists that serve most at every level, the plan takes more first and carries the lowest charge after every frame.
+-- Among the lists that serve most at every level, the plan takes more first and carries the lowest charge after every
+-- frame.
 use mathlib.Core.Path.{_≡_, refl}
 use mathlib.Core.Logic.{_⊎_, inl, inr, ⊎-elim}
-use mathlib.Core.Bool.{Bool, true, false, _&&_, _||_}
+use mathlib.Core.Bool.{true}
 use mathlib.Core.List.{List, [], _∷_}
-use Prim.Native.Nat.{ℕ, zero, suc, _+_, _-_, _≤_, _<_, min, max}
+use Prim.Native.Nat.{ℕ, suc, _+_, _-_, _≤_, _<_, min}
 use native.Mathlib.Nat.{le-refl}
 use native.Mathlib.Omega.{arith}
 use lib.Dec.{ltb, eqb}
@@ -21,7 +22,8 @@ abbrev pub MostServed : ℕ → ℕ → List Frame → List ℕ → Type 0
 MostServed e y fs cs = (ds : List ℕ) → Feasible e y fs ds → (l : ℕ) → served l ds ≤ served l cs
 
 -- what follows a frame serves most from what is left
-pub most-rest : (e y : ℕ) (f : Frame) (fs : List Frame) (c : ℕ) (cs : List ℕ) → Allowed f y c → MostServed e y (f ∷ fs) (c ∷ cs) →
+pub most-rest : (e y : ℕ) (f : Frame) (fs : List Frame) (c : ℕ) (cs : List ℕ) → Allowed f y c →
+    MostServed e y (f ∷ fs) (c ∷ cs) →
     MostServed e (left f y c) fs cs
 unfolding served
 most-rest e y f fs c cs a m ds k l = omega (arith, m (c ∷ ds) (a, k) l)
@@ -31,7 +33,8 @@ pub plan-most : (e y : ℕ) (fs : List Frame) → MostServed e y fs (plan e y fs
 plan-most e y fs ds k l = plan-best e y l fs ds k .1
 
 -- A frame with room r, drain d and the largest budget b; another list has room r′ and budget c, and carries less on.
-module _ (e : ℕ) (fs : List Frame) (d r r′ lo hi b c : ℕ) (cs : List ℕ) (i : IsLargest e fs (r - d) lo (min hi (r - d)) b)
+module _ (e : ℕ) (fs : List Frame) (d r r′ lo hi b c : ℕ) (cs : List ℕ)
+    (i : IsLargest e fs (r - d) lo (min hi (r - d)) b)
     (more-room : r ≤ r′) (high : c ≤ hi) (have : d + c ≤ r′) (less : r′ - (d + c) < r - (d + b)) where
   lower-budget : b < c
   lower-budget = omega (arith, more-room, have, less)
@@ -68,13 +71,24 @@ lowest-first e y y′ f fs c cs h a k m =
     (λ (p : left f y′ c < left f y (budget e y f fs)). absurd (clash (budget e y f fs) (budget-is e y f fs) p))
     (le-or-lt (left f y (budget e y f fs)) (left f y′ c))
   where
-    clash : (b : ℕ) → IsLargest e fs (room f y - f .drain) (f .least) (min (f .most) (room f y - f .drain)) b → left f y′ c < left f y b → ⊥
+    clash : (b : ℕ) → IsLargest e fs (room f y - f .drain) (f .least) (min (f .most) (room f y - f .drain)) b →
+        left f y′ c < left f y b → ⊥
     clash b i p =
         let g = room-grows f y y′ h in
-        let q = lower-budget e fs (f .drain) (room f y) (room f y′) (f .least) (f .most) b c cs i g (a .high) (a .have) p in
-        let s = lower-serves e fs (f .drain) (room f y) (room f y′) (f .least) (f .most) b c cs i g (a .high) (a .have) p k in
+        let q = lower-budget e fs (f .drain) (room f y) (room f y′) (f .least) (f .most) b c cs i g (a .high)
+        (a .have) p in
+        let s = lower-serves e fs (f .drain) (room f y) (room f y′) (f .least) (f .most) b c cs i g (a .high)
+        (a .have) p k in
         better-sum b c (served b cs) (served b (s .0)) q (s .2)
-        (m ((c - 1) ∷ s .0) (record { low = low-one (f .least) b c (i .low) q; high = high-one c (f .most) (a .high); have = have-one (f .drain) c (room f y′) (a .have) }, s .1) b)
+        (m ((c - 1) ∷ s .0) (
+          record {
+            low = low-one (f .least) b c (i .low) q;
+            high = high-one c (f .most) (a .high);
+            have =
+                have-one (f .drain) c (room f y′) (a .have);
+          },
+          s .1,
+        ) b)
       where
         low-one : (lo b c : ℕ) → lo ≤ b → b < c → lo ≤ c - 1
         low-one lo b c p q = omega arith
@@ -114,7 +128,8 @@ takes-more e y (f ∷ fs) (c ∷ cs) k m =
     let b = budget e y f fs in
     let a = budget-allowed e y f fs c (k .0) in
     takes-more-step e y f fs b c (plan e (left f y b) fs) cs
-    (no-more (f .drain) (room f y) b c (k .0 .have) (a .have) (lowest-first e y y f fs c cs (le-refl y) (k .0) (k .1) m))
+    (no-more (f .drain) (room f y) b c (k .0 .have) (a .have)
+    (lowest-first e y y f fs c cs (le-refl y) (k .0) (k .1) m))
     (λ (q : c ≡ b). takes-more e (left f y b) fs cs (rw q at (k .1)) (rw q at (most-rest e y f fs c cs (k .0) m)))
 
 -- the charge carried on after each frame

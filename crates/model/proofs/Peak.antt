@@ -1,12 +1,13 @@
--- Without limit the plan requires, after each frame, just the charge that it carries; so the needed capacity is a highest charge.
+-- Without limit the plan requires, after each frame, just the charge that it carries; so the needed capacity is a
+-- highest charge.
 use mathlib.Core.Path.{_≡_, refl, ap₂, _∙_}
 use mathlib.Core.Logic.{_⊎_, ⊎-elim}
 use mathlib.Core.List.{List, [], _∷_}
-use Prim.Native.Nat.{ℕ, zero, suc, _+_, _-_, _≤_, _<_, min, max}
+use Prim.Native.Nat.{ℕ, _+_, _-_, _≤_, _<_, min, max}
 use native.Mathlib.Nat.{le-refl}
 use native.Mathlib.Omega.{arith}
 use Rattle.model.specs.Request.{Request, total, mostEnergy}
-use Rattle.model.specs.Frames.{Frame, room, left, Allowed, Feasible, reserve, budget, plan, requirement, peak}
+use Rattle.model.specs.Frames.{left, Feasible, reserve, budget, plan, requirement, peak}
 use Rattle.model.specs.Plan.{frameOf, framesOf, boundless, openPlan, neededOf}
 use Rattle.model.proofs.Order.{le-or-lt}
 use Rattle.model.proofs.Budget.{IsLargest, budget-is}
@@ -64,18 +65,23 @@ module _ (c m e : ℕ) where
 
   peak-carried : (y : ℕ) (hs : List ℕ) → y + total hs ≤ c → y + total hs ≤ m →
       Feasible e y (framesOf c m hs) (plan e y (framesOf c m hs)) →
-      peak e (framesOf c m hs) (plan e y (framesOf c m hs)) ≡ greatest (carried y (framesOf c m hs) (plan e y (framesOf c m hs)))
+      peak e (framesOf c m hs) (plan e y (framesOf c m hs)) ≡ greatest
+      (carried y (framesOf c m hs) (plan e y (framesOf c m hs)))
   unfolding framesOf plan peak carried requirement
   peak-carried y [] p q k = refl
   peak-carried y (h ∷ []) p q k = rw (last-left c m e y h (omega arith) (omega arith) (k .1)) refl
   peak-carried y (h ∷ (x ∷ hs)) p q k =
       let f = frameOf c m h in
       let z = left f y (budget e y f (framesOf c m (x ∷ hs))) in
-      ap₂ max (tight z x hs (omega arith) (omega arith) (k .1)) (peak-carried z (x ∷ hs) (omega arith) (omega arith) (k .1))
+      ap₂ max (tight z x hs (omega arith) (omega arith) (k .1))
+      (peak-carried z (x ∷ hs) (omega arith) (omega arith) (k .1))
 
 -- the needed capacity is the greatest of the start, the end and the charges that the open plan carries
-pub needed-carried : (r : Request) → r .end ≤ mostEnergy r →
-    neededOf r ≡ max (r .start) (max (r .end) (greatest (carried (r .start) (framesOf (boundless r) (mostEnergy r) (r .harvest)) (openPlan r))))
+pub needed-carried : (r : Request) → r .figures .end ≤ mostEnergy r →
+    neededOf r ≡ max (r .figures .start)
+    (max (r .figures .end)
+    (greatest (carried (r .figures .start) (framesOf (boundless r) (mostEnergy r) (r .harvest)) (openPlan r))))
 unfolding neededOf openPlan
 needed-carried r reach =
-    rw (peak-carried (boundless r) (mostEnergy r) (r .end) (r .start) (r .harvest) (omega arith) (omega arith) (open-plan-frames r reach)) refl
+    rw (peak-carried (boundless r) (mostEnergy r) (r .figures .end) (r .figures .start) (r .harvest) (omega arith)
+    (omega arith) (open-plan-frames r reach)) refl

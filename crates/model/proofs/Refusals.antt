@@ -11,7 +11,9 @@ use Rattle.model.specs.declared.Refusal.{Refusal}
 use Rattle.model.specs.Choice.{pick}
 use Rattle.model.specs.Limits.{maxFrames, maxHarvest, maxCapacity}
 use Rattle.model.specs.Request.{Request, frameCount, mostEnergy}
-use Rattle.model.specs.Refusals.{none, refusal, isNone, refuseIf, firstOf, wrongLength, overCapacityLimit, framesRefusals, figureRefusals, harvestOverLimit, outOfReach, planRefusal, neededRefusal, startRefusal}
+use Rattle.model.specs.Refusals.{none, refusal, isNone, refuseIf, firstOf, wrongLength, overCapacityLimit}
+use Rattle.model.specs.Refusals.{framesRefusals, figureRefusals, harvestOverLimit, outOfReach, planRefusal}
+use Rattle.model.specs.Refusals.{neededRefusal, startRefusal}
 use Rattle.model.proofs.Order.{le-or-lt}
 
 -- a refusal whose number is not 9
@@ -39,8 +41,8 @@ harvest-not-nine k (h ∷ hs) = go (ltb maxHarvest h) (harvest-not-nine (suc k) 
     go true i = λ p. omega arith
     go false i = i
 
-reach-not-nine : (r : Request) → r .end ≤ mostEnergy r → NotNine (outOfReach r)
-reach-not-nine r h = rw (le-ltb (mostEnergy r) (r .end) h) none-not-nine
+reach-not-nine : (r : Request) → r .figures .end ≤ mostEnergy r → NotNine (outOfReach r)
+reach-not-nine r h = rw (le-ltb (mostEnergy r) (r .figures .end) h) none-not-nine
 
 pub first-not-nine : (fs : List Refusal) → NoneNine fs → NotNine (firstOf fs)
 first-not-nine [] a = none-not-nine
@@ -51,13 +53,16 @@ first-not-nine (f ∷ fs) a = go (isNone f) (first-not-nine fs (a .1))
     go false i = a .0
 
 -- a refusal that is 9 only out of reach says so by being 9
-nine-says : (r : Request) (f : Refusal) → (r .end ≤ mostEnergy r → NotNine f) → f .number ≡ 9 → mostEnergy r < r .end
+nine-says : (r : Request) (f : Refusal) → (r .figures .end ≤ mostEnergy r → NotNine f) → f .number ≡ 9 →
+    mostEnergy r < r .figures .end
 nine-says r f h p =
-    ⊎-elim (λ (q : r .end ≤ mostEnergy r). absurd (h q p)) (λ (q : mostEnergy r < r .end). q) (le-or-lt (r .end) (mostEnergy r))
+    ⊎-elim (λ (q : r .figures .end ≤ mostEnergy r). absurd (h q p)) (λ (q : mostEnergy r < r .figures .end). q)
+    (le-or-lt (r .figures .end) (mostEnergy r))
 
 -- the refusals of frames and figures are no 9
 frames-not-nine : (k : ℕ) → NoneNine (framesRefusals k)
-frames-not-nine k = (refuse-not-nine (eqb k 0) 1 (λ p. omega arith), (refuse-not-nine (ltb maxFrames k) 2 (λ p. omega arith), tt))
+frames-not-nine k =
+    (refuse-not-nine (eqb k 0) 1 (λ p. omega arith), (refuse-not-nine (ltb maxFrames k) 2 (λ p. omega arith), tt))
 
 length-not-nine : (k n : ℕ) → NotNine (wrongLength k n)
 length-not-nine k n = refuse-not-nine (not (eqb n k)) 7 (λ p. omega arith)
@@ -66,31 +71,51 @@ limit-not-nine : (c : ℕ) → NotNine (overCapacityLimit c)
 limit-not-nine c = refuse-not-nine (ltb maxCapacity c) 3 (λ p. omega arith)
 
 figures-not-nine : (r : Request) → NoneNine (figureRefusals r)
-figures-not-nine r =
-    (limit-not-nine (r .capacity), (refuse-not-nine (ltb (r .capacity) (r .start)) 4 (λ p. omega arith), (refuse-not-nine (ltb (r .capacity) (r .end)) 5 (λ p. omega arith), (harvest-not-nine 1 (r .harvest), tt))))
+figures-not-nine r = (
+  limit-not-nine (r .figures .capacity),
+  (
+    refuse-not-nine (ltb (r .figures .capacity) (r .figures .start)) 4 (λ p. omega arith),
+    (
+      refuse-not-nine (ltb (r .figures .capacity) (r .figures .end)) 5 (λ p. omega arith),
+      (harvest-not-nine 1 (r .harvest), tt),
+    ),
+  ),
+)
 
 join : (fs gs : List Refusal) → NoneNine fs → NoneNine gs → NoneNine (fs ++ gs)
 join [] gs a b = b
 join (f ∷ fs) gs a b = (a .0, join fs gs (a .1) b)
 
 -- planning, the needed capacity and the start of a shift refuse with 9 only out of reach
-pub plan-nine : (r : Request) (n : ℕ) → planRefusal r n .number ≡ 9 → mostEnergy r < r .end
+pub plan-nine : (r : Request) (n : ℕ) → planRefusal r n .number ≡ 9 → mostEnergy r < r .figures .end
 plan-nine r n =
     let k = frameCount r in
     let fs = wrongLength k n ∷ (figureRefusals r ++ (outOfReach r ∷ [])) in
     nine-says r (planRefusal r n)
-    (λ h. first-not-nine (framesRefusals k ++ fs) (join (framesRefusals k) fs (frames-not-nine k) (length-not-nine k n, join (figureRefusals r) (outOfReach r ∷ []) (figures-not-nine r) (reach-not-nine r h, tt))))
+    (λ h. first-not-nine (framesRefusals k ++ fs)
+    (join (framesRefusals k) fs (frames-not-nine k) (
+      length-not-nine k n,
+      join (figureRefusals r) (outOfReach r ∷ []) (figures-not-nine r)
+          (reach-not-nine r h, tt),
+    )))
 
-pub needed-nine : (r : Request) → neededRefusal r .number ≡ 9 → mostEnergy r < r .end
+pub needed-nine : (r : Request) → neededRefusal r .number ≡ 9 → mostEnergy r < r .figures .end
 needed-nine r =
     let k = frameCount r in
-    let fs = overCapacityLimit (r .start) ∷ overCapacityLimit (r .end) ∷ harvestOverLimit 1 (r .harvest) ∷ outOfReach r ∷ [] in
+    let fs = overCapacityLimit (r .figures .start) ∷ overCapacityLimit (r .figures .end)
+    ∷ harvestOverLimit 1 (r .harvest) ∷ outOfReach r ∷ [] in
     nine-says r (neededRefusal r)
-    (λ h. first-not-nine (framesRefusals k ++ fs) (join (framesRefusals k) fs (frames-not-nine k) (limit-not-nine (r .start), (limit-not-nine (r .end), (harvest-not-nine 1 (r .harvest), (reach-not-nine r h, tt))))))
+    (λ h. first-not-nine (framesRefusals k ++ fs)
+    (join (framesRefusals k) fs (frames-not-nine k) (
+      limit-not-nine (r .figures .start),
+      (limit-not-nine (r .figures .end), (harvest-not-nine 1 (r .harvest), (reach-not-nine r h, tt))),
+    )))
 
-pub start-nine : (r : Request) → startRefusal r .number ≡ 9 → mostEnergy r < r .end
+pub start-nine : (r : Request) → startRefusal r .number ≡ 9 → mostEnergy r < r .figures .end
 start-nine r =
     let k = frameCount r in
     let fs = figureRefusals r ++ (outOfReach r ∷ []) in
     nine-says r (startRefusal r)
-    (λ h. first-not-nine (framesRefusals k ++ fs) (join (framesRefusals k) fs (frames-not-nine k) (join (figureRefusals r) (outOfReach r ∷ []) (figures-not-nine r) (reach-not-nine r h, tt))))
+    (λ h. first-not-nine (framesRefusals k ++ fs)
+    (join (framesRefusals k) fs (frames-not-nine k)
+    (join (figureRefusals r) (outOfReach r ∷ []) (figures-not-nine r) (reach-not-nine r h, tt))))

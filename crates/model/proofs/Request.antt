@@ -8,11 +8,11 @@ use lib.Signed.{_≤ℤ_}
 use lib.ListN.{length, getD, replicate}
 use Prim.Native.Nat.{ℕ, zero, suc, _+_, _-_, _≤_, _<_, min}
 use native.Mathlib.Omega.{arith}
-use lib.Dec.{leb, ltb, eqb}
-use borrow.Author.Tests.{ltb-true, ltb-false, eqb-true, leb-true}
-use Rattle.model.specs.Request.{Request, total, mostEnergy, frameCount}
-use Rattle.model.specs.Charge.{feasibleFrom, feasible, charges, chargesFrom}
-use Rattle.model.specs.Reward.{Qualifies, earned, BestFor, BestForAll, takesMore, IsPlan}
+use lib.Dec.{ltb, eqb}
+use borrow.Author.Tests.{ltb-true, eqb-true}
+use Rattle.model.specs.Request.{Request, total, mostEnergy}
+use Rattle.model.specs.Charge.{feasible, charges}
+use Rattle.model.specs.Reward.{Qualifies, earned, BestForAll, takesMore, IsPlan}
 use Rattle.model.specs.Frames.{Frame, Feasible, plan, served}
 use Rattle.model.specs.Plan.{framesOf, planOf}
 use Rattle.model.specs.Demands.{PlanDemand}
@@ -21,16 +21,17 @@ use Rattle.model.proofs.Tests.{both}
 use Rattle.model.proofs.Tables.{WithinAll, served-earns, level-qualifies, earned-level}
 use Rattle.model.proofs.Trace.{feasible-length}
 use Rattle.model.proofs.Plan.{plan-best}
-use Rattle.model.proofs.Lowest.{MostServed, takes-more, lowest, carried, AtMost}
+use Rattle.model.proofs.Lowest.{MostServed, takes-more, lowest, AtMost}
 use Rattle.model.proofs.Bridge.{frames-feasible, feasible-frames, frames-within, charges-at-most}
 use Rattle.model.proofs.Reach.{zeros-feasible, spent}
 
 -- the frames of a request
 abbrev pub requestFrames : Request → List Frame
-requestFrames r = framesOf (r .capacity) (mostEnergy r) (r .harvest)
+requestFrames r = framesOf (r .figures .capacity) (mostEnergy r) (r .harvest)
 
 -- a list that earns most for every table serves most at every level
-pub earns-serves : (l : ℕ) (bs cs : List ℕ) → earned (λ n. pos (min n l)) cs ≤ℤ earned (λ n. pos (min n l)) bs → served l cs ≤ served l bs
+pub earns-serves : (l : ℕ) (bs cs : List ℕ) → earned (λ n. pos (min n l)) cs ≤ℤ earned (λ n. pos (min n l)) bs →
+    served l cs ≤ served l bs
 earns-serves l bs cs h = int.le-pos (served l cs) (served l bs) (rw (earned-level l cs, earned-level l bs) at h)
 
 either : (s t : Bool) → s || t ≡ true → (s ≡ true) ⊎ (t ≡ true)
@@ -38,7 +39,8 @@ either true t p = inl refl
 either false t p = inr p
 
 -- what it is to take more at the first difference
-more-first : (b c : ℕ) (bs cs : List ℕ) → takesMore (b ∷ bs) (c ∷ cs) ≡ true → (c < b) ⊎ ((b ≡ c) × (takesMore bs cs ≡ true))
+more-first : (b c : ℕ) (bs cs : List ℕ) → takesMore (b ∷ bs) (c ∷ cs) ≡ true →
+    (c < b) ⊎ ((b ≡ c) × (takesMore bs cs ≡ true))
 more-first b c bs cs p =
     ⊎-elim
     (λ (q : ltb c b ≡ true). inl (ltb-true c b q))
@@ -78,51 +80,67 @@ at-most-at (x ∷ xs) [] k i = absurd k
 at-most-at (x ∷ xs) (y ∷ ys) k zero = k .0
 at-most-at (x ∷ xs) (y ∷ ys) k (suc i) = at-most-at xs ys (k .1) i
 
-module _ (r : Request) (start-fits : r .start ≤ r .capacity) (end-fits : r .end ≤ r .capacity) where
-  shown : r .start ≡ min (r .capacity) (r .start)
+module _ (r : Request) (start-fits : r .figures .start ≤ r .figures .capacity)
+    (end-fits : r .figures .end ≤ r .figures .capacity) where
+  shown : r .figures .start ≡ min (r .figures .capacity) (r .figures .start)
   shown = omega (arith, start-fits)
 
-  over-frames : (bs : List ℕ) → feasible r bs ≡ true → Feasible (r .end) (r .start) (requestFrames r) bs
+  over-frames : (bs : List ℕ) → feasible r bs ≡ true →
+      Feasible (r .figures .end) (r .figures .start) (requestFrames r) bs
   over-frames bs k =
-      feasible-frames (r .capacity) (r .end) (mostEnergy r) end-fits (r .start) (r .start) (r .harvest) bs shown (omega arith) k
+      feasible-frames (r .figures .capacity) (r .figures .end) (mostEnergy r) end-fits (r .figures .start)
+      (r .figures .start) (r .harvest) bs shown (omega arith) k
 
-  from-frames : (bs : List ℕ) → Feasible (r .end) (r .start) (requestFrames r) bs → feasible r bs ≡ true
-  from-frames bs k = frames-feasible (r .capacity) (r .end) (mostEnergy r) end-fits (r .start) (r .start) (r .harvest) bs shown k
+  from-frames : (bs : List ℕ) → Feasible (r .figures .end) (r .figures .start) (requestFrames r) bs →
+      feasible r bs ≡ true
+  from-frames bs k =
+      frames-feasible (r .figures .capacity) (r .figures .end) (mostEnergy r) end-fits (r .figures .start)
+      (r .figures .start) (r .harvest) bs shown k
 
-  pub within-reach : r .end ≤ mostEnergy r → (bs : List ℕ) × (feasible r bs ≡ true)
-  within-reach h = (replicate (length (r .harvest)) 0, zeros-feasible (r .capacity) (r .end) (r .start) (r .harvest) end-fits h)
+  pub within-reach : r .figures .end ≤ mostEnergy r → (bs : List ℕ) × (feasible r bs ≡ true)
+  within-reach h = (
+    replicate (length (r .harvest)) 0,
+    zeros-feasible (r .figures .capacity) (r .figures .end) (r .figures .start)
+        (r .harvest) end-fits h,
+  )
 
   pub plan-serves : (bs : List ℕ) → feasible r bs ≡ true → (l : ℕ) → served l bs ≤ served l (planOf r)
   unfolding planOf
-  plan-serves bs k l = plan-best (r .end) (r .start) l (requestFrames r) bs (over-frames bs k) .1
+  plan-serves bs k l = plan-best (r .figures .end) (r .figures .start) l (requestFrames r) bs (over-frames bs k) .1
 
-  pub plan-feasible : r .end ≤ mostEnergy r → feasible r (planOf r) ≡ true
+  pub plan-feasible : r .figures .end ≤ mostEnergy r → feasible r (planOf r) ≡ true
   unfolding planOf
   plan-feasible h =
       let w = within-reach h in
-      from-frames (planOf r) (plan-best (r .end) (r .start) 0 (requestFrames r) (w .0) (over-frames (w .0) (w .1)) .0)
+      from-frames (planOf r)
+      (plan-best (r .figures .end) (r .figures .start) 0 (requestFrames r) (w .0) (over-frames (w .0) (w .1)) .0)
 
   within-all : (bs : List ℕ) → feasible r bs ≡ true → WithinAll (mostEnergy r) bs
-  within-all bs k = frames-within (r .capacity) (r .end) (mostEnergy r) (r .start) (r .harvest) bs (over-frames bs k)
+  within-all bs k =
+      frames-within (r .figures .capacity) (r .figures .end) (mostEnergy r) (r .figures .start) (r .harvest) bs
+      (over-frames bs k)
 
   -- serving as much at every level is earning as much for every table
-  pub serves-earns : (bs cs : List ℕ) → feasible r bs ≡ true → feasible r cs ≡ true → ((l : ℕ) → served l cs ≤ served l bs) →
+  pub serves-earns : (bs cs : List ℕ) → feasible r bs ≡ true → feasible r cs ≡ true →
+      ((l : ℕ) → served l cs ≤ served l bs) →
       (f : ℕ → ℤ) → Qualifies f (mostEnergy r) → earned f cs ≤ℤ earned f bs
   serves-earns bs cs p q h f w =
-      served-earns f (mostEnergy r) w bs cs (feasible-length r cs q ∙ sym (feasible-length r bs p)) (within-all bs p) (within-all cs q) h
+      served-earns f (mostEnergy r) w bs cs (feasible-length r cs q ∙ sym (feasible-length r bs p)) (within-all bs p)
+      (within-all cs q) h
 
-  most-served : (cs : List ℕ) → BestForAll r cs → MostServed (r .end) (r .start) (requestFrames r) cs
+  most-served : (cs : List ℕ) → BestForAll r cs → MostServed (r .figures .end) (r .figures .start) (requestFrames r) cs
   most-served cs best ds k l =
       earns-serves l cs ds (best (λ n. pos (min n l)) (level-qualifies l (mostEnergy r)) ds (from-frames ds k))
 
-  pub plan-is : r .end ≤ mostEnergy r → IsPlan r (planOf r)
+  pub plan-is : r .figures .end ≤ mostEnergy r → IsPlan r (planOf r)
   unfolding planOf
   plan-is h =
       let k = plan-feasible h in
       record {
         is-feasible = k;
         is-best = λ f w cs q. serves-earns (planOf r) cs k q (λ l. plan-serves cs q l) f w;
-        takes-more = λ cs q best. takes-more (r .end) (r .start) (requestFrames r) cs (over-frames cs q) (most-served cs best);
+        takes-more = λ cs q best. takes-more (r .figures .end) (r .figures .start) (requestFrames r) cs
+            (over-frames cs q) (most-served cs best);
       }
 
   pub lowest-charges : (bs : List ℕ) → feasible r bs ≡ true → BestForAll r bs → (i : ℕ) →
@@ -130,8 +148,10 @@ module _ (r : Request) (start-fits : r .start ≤ r .capacity) (end-fits : r .en
   unfolding planOf
   lowest-charges bs k best =
       at-most-at (charges r (planOf r)) (charges r bs)
-      (charges-at-most (r .capacity) (mostEnergy r) (r .start) (r .start) (r .start) (r .start) (r .harvest) (planOf r) bs shown shown
-      (lowest (r .end) (r .start) (r .start) (requestFrames r) bs bs (omega arith) (over-frames bs k) (over-frames bs k) (most-served bs best)))
+      (charges-at-most (r .figures .capacity) (mostEnergy r) (r .figures .start) (r .figures .start)
+      (r .figures .start) (r .figures .start) (r .harvest) (planOf r) bs shown shown
+      (lowest (r .figures .end) (r .figures .start) (r .figures .start) (requestFrames r) bs bs (omega arith)
+      (over-frames bs k) (over-frames bs k) (most-served bs best)))
 
 -- two plans of a request are the same list
 pub one-plan : (r : Request) (bs cs : List ℕ) → IsPlan r bs → IsPlan r cs → bs ≡ cs
@@ -146,18 +166,21 @@ one-plan r bs cs p q =
     (p .takes-more cs (q .is-feasible) (q .is-best))
 
 -- nothing is feasible where the end charge is out of reach
-pub out-of-reach : (r : Request) → mostEnergy r < r .end → (bs : List ℕ) → feasible r bs ≡ false
+pub out-of-reach : (r : Request) → mostEnergy r < r .figures .end → (bs : List ℕ) → feasible r bs ≡ false
 out-of-reach r h bs = go (feasible r bs) refl
   where
     go : (t : Bool) → feasible r bs ≡ t → t ≡ false
-    go true q = absurd (not-reached (total bs) (r .end) (mostEnergy r) (spent (r .capacity) (r .end) (r .start) (r .harvest) bs q) h)
+    go true q = absurd
+        (not-reached (total bs) (r .figures .end) (mostEnergy r)
+        (spent (r .figures .capacity) (r .figures .end) (r .figures .start) (r .harvest) bs q) h)
       where
         not-reached : (t e m : ℕ) → t + e ≤ m → m < e → ⊥
         not-reached t e m p q = omega arith
     go false q = refl
 
 -- demand 3, and reach of demand 2
-pub plan-demand : (r : Request) → r .start ≤ r .capacity → r .end ≤ r .capacity → PlanDemand r
+pub plan-demand : (r : Request) → r .figures .start ≤ r .figures .capacity → r .figures .end ≤ r .figures .capacity →
+    PlanDemand r
 plan-demand r s e =
     record {
       within-reach = within-reach r s e;
@@ -168,8 +191,10 @@ plan-demand r s e =
       lowest-charges = lowest-charges r s e;
     }
   where
-    reached : (bs : List ℕ) → IsPlan r bs → r .end ≤ mostEnergy r
-    reached bs p = at-least (total bs) (r .end) (mostEnergy r) (spent (r .capacity) (r .end) (r .start) (r .harvest) bs (p .is-feasible))
+    reached : (bs : List ℕ) → IsPlan r bs → r .figures .end ≤ mostEnergy r
+    reached bs p =
+        at-least (total bs) (r .figures .end) (mostEnergy r)
+        (spent (r .figures .capacity) (r .figures .end) (r .figures .start) (r .harvest) bs (p .is-feasible))
       where
         at-least : (t e m : ℕ) → t + e ≤ m → e ≤ m
         at-least t e m p = omega arith

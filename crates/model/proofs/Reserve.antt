@@ -1,9 +1,10 @@
--- The reserve of a level: a store below it wants every unit, a store at it misses none below that level, and no unit is worth more than one.
+-- The reserve of a level: a store below it wants every unit, a store at it misses none below that level, and no unit
+-- is worth more than one.
 use mathlib.Core.Path.{_≡_}
 use mathlib.Core.Logic.{_⊎_, inl, inr, ⊎-elim}
 use mathlib.Core.List.{List, [], _∷_}
 use Prim.Native.Nat.{ℕ, zero, suc, _+_, _-_, _≤_, _<_, min, max}
-use native.Mathlib.Nat.{le-refl}
+use native.Mathlib.Nat.{le-refl, le-trans}
 use native.Mathlib.Omega.{arith}
 use Rattle.model.specs.Frames.{Frame, room, left, Allowed, Feasible, draw, reserve, served}
 use Rattle.model.proofs.Order.{le-or-lt}
@@ -46,7 +47,8 @@ pub reserve-grows : (e l m : ℕ) (fs : List Frame) → l ≤ m → reserve e l 
 unfolding reserve
 reserve-grows e l m [] h = le-refl _
 reserve-grows e l m (f ∷ fs) h =
-    grows-step (f .ceiling - f .inflow) (f .drain) (f .inflow) (draw f l) (draw f m) (reserve e l fs) (reserve e m fs) (omega arith)
+    grows-step (f .ceiling - f .inflow) (f .drain) (f .inflow) (draw f l) (draw f m) (reserve e l fs) (reserve e m fs)
+    (omega arith)
     (reserve-grows e l m fs h)
 
 -- a list feasible from a charge, serving at a level at least a given amount
@@ -54,12 +56,20 @@ abbrev pub Serving : ℕ → ℕ → List Frame → ℕ → ℕ → Type 0
 Serving e y fs l n = (c : List ℕ) × Feasible e y fs c × (n ≤ served l c)
 
 -- the unit is drawn in this frame
-poor-here : (e y l m : ℕ) (f : Frame) (fs : List Frame) (b : ℕ) (bs : List ℕ) → y < reserve e m (f ∷ fs) → b < l → b < f .most →
+poor-here : (e y l m : ℕ) (f : Frame) (fs : List Frame) (b : ℕ) (bs : List ℕ) → y < reserve e m (f ∷ fs) → b < l →
+    b < f .most →
     Allowed f y b → Feasible e (left f y b) fs bs → Serving e (suc y) (f ∷ fs) l (suc (served l (b ∷ bs)))
 unfolding served
 poor-here e y l m f fs b bs h p q a k =
-    let g = below-reserve e y m f fs h in
-    (suc b ∷ bs, (record { low = omega arith; high = omega arith; have = omega arith }, more e (left f y b) (left f (suc y) (suc b)) fs bs (omega arith) k), omega arith)
+    let g = below-reserve e y m f fs h in (
+      suc b ∷ bs,
+      (
+        record { low = omega arith; high = omega arith; have = omega arith },
+        more e (left f y b)
+            (left f (suc y) (suc b)) fs bs (omega arith) k,
+      ),
+      omega arith,
+    )
 
 -- the unit is carried on
 poor-on : (e y l m : ℕ) (f : Frame) (fs : List Frame) (b : ℕ) (bs : List ℕ) → y < reserve e m (f ∷ fs) → draw f m ≤ b →
@@ -70,8 +80,15 @@ poor-on e y l m f fs b bs h p a ih =
     let g = below-reserve e y m f fs h in
     let low : f .least ≤ b = a .low in
     let have : f .drain + b ≤ y + f .inflow = omega (arith, a .have) in
-    let r = ih (omega arith) in
-    (b ∷ r .0, (record { low = a .low; high = a .high; have = omega arith }, more e (suc (left f y b)) (left f (suc y) b) fs (r .0) (omega arith) (r .1)), omega (arith, r .2))
+    let r = ih (omega arith) in (
+      b ∷ r .0,
+      (
+        record { low = a .low; high = a .high; have = omega arith },
+        more e (suc (left f y b))
+            (left f (suc y) b) fs (r .0) (omega arith) (r .1),
+      ),
+      omega (arith, r .2),
+    )
 
 -- a poor store wants every unit: below the reserve of level m, one unit more serves one more at every level from m on
 pub poor : (e y l m : ℕ) (fs : List Frame) (bs : List ℕ) → m ≤ l → y < reserve e m fs → Feasible e y fs bs →
@@ -82,12 +99,14 @@ poor e y l m [] (b ∷ bs) s h k = absurd k
 poor e y l m (f ∷ fs) [] s h k = absurd k
 poor e y l m (f ∷ fs) (b ∷ bs) s h k =
     ⊎-elim
-    (λ (p : min l (f .most) ≤ b). poor-on e y l m f fs b bs h (omega (arith, k .0 .low)) (k .0) (λ q. poor e (left f y b) l m fs bs s q (k .1)))
+    (λ (p : min l (f .most) ≤ b). poor-on e y l m f fs b bs h (omega (arith, k .0 .low)) (k .0)
+    (λ q. poor e (left f y b) l m fs bs s q (k .1)))
     (λ (p : b < min l (f .most)). poor-here e y l m f fs b bs h (omega arith) (omega arith) (k .0) (k .1))
     (le-or-lt (min l (f .most)) b)
 
 -- the same n times over, while the store stays below the reserve
-pub poor-times : (e y l m n : ℕ) (fs : List Frame) (bs : List ℕ) → m ≤ l → y + n ≤ reserve e m fs → Feasible e y fs bs →
+pub poor-times : (e y l m n : ℕ) (fs : List Frame) (bs : List ℕ) → m ≤ l → y + n ≤ reserve e m fs →
+    Feasible e y fs bs →
     Serving e (y + n) fs l (served l bs + n)
 poor-times e y l m zero fs bs s h k = (bs, more e y (y + 0) fs bs (omega arith) k, omega arith)
 poor-times e y l m (suc n) fs bs s h k =
@@ -96,11 +115,19 @@ poor-times e y l m (suc n) fs bs s h k =
     (q .0, more e (suc (y + n)) (y + suc n) fs (q .0) (omega arith) (q .1), omega (arith, r .2, q .2))
 
 -- a full store serves whatever any charge serves
-rich-full : (e y y′ l : ℕ) (f : Frame) (fs : List Frame) (b : ℕ) (bs : List ℕ) → f .ceiling ≤ y + f .inflow → Allowed f y′ b →
+rich-full : (e y y′ l : ℕ) (f : Frame) (fs : List Frame) (b : ℕ) (bs : List ℕ) → f .ceiling ≤ y + f .inflow →
+    Allowed f y′ b →
     Feasible e (left f y′ b) fs bs → Serving e y (f ∷ fs) l (served l (b ∷ bs))
 rich-full e y y′ l f fs b bs h a k =
-    let g : room f y′ ≤ room f y = omega arith in
-    (b ∷ bs, (record { low = a .low; high = a .high; have = omega arith }, more e (left f y′ b) (left f y b) fs bs (omega arith) k), le-refl _)
+    let g : room f y′ ≤ room f y = omega arith in (
+      b ∷ bs,
+      (
+        record { low = a .low; high = a .high; have = omega arith },
+        more e (left f y′ b) (left f y b) fs bs
+            (omega arith) k,
+      ),
+      le-refl _,
+    )
 
 -- drawing no more than level m misses nothing at level l ≤ m
 capped-draw : (lo hi l m b : ℕ) → l ≤ m → b ≤ hi → min b l ≤ min b (max lo (min hi m))
@@ -116,12 +143,22 @@ rich-on e y l m f fs b bs s p₀ h low high ih =
     let u : room f y ≡ y + f .inflow = omega arith in
     let p : min b l ≤ x = capped-draw (f .least) (f .most) l m b s high in
     let q : (f .least ≤ x) × (x ≤ b) × (x ≤ draw f m) = (omega arith, omega arith, omega arith) in
-    let r = ih (left f y x) (carries (f .drain) (draw f m) x (reserve e m fs) (y + f .inflow) (room f y) u h (q .2)) in
-    (x ∷ r .0, (record { low = q .0; high = at-most x b (f .most) (q .1) high; have = has (f .drain) (draw f m) x (reserve e m fs) (y + f .inflow) (room f y) u h (q .2) }, r .1), sums (min b l) x l (served l bs) (served l (r .0)) p (omega arith) (r .2))
+    let r = ih (left f y x)
+    (carries (f .drain) (draw f m) x (reserve e m fs) (y + f .inflow) (room f y) u h (q .2)) in (
+      x ∷ r .0,
+      (
+        record {
+          low = q .0;
+          high = le-trans (q .1) high;
+          have =
+              has (f .drain) (draw f m) x (reserve e m fs) (y + f .inflow) (room f y) u h (q .2);
+        },
+        r .1,
+      ),
+      sums
+          (min b l) x l (served l bs) (served l (r .0)) p (omega arith) (r .2),
+    )
   where
-    at-most : (x b hi : ℕ) → x ≤ b → b ≤ hi → x ≤ hi
-    at-most x b hi p q = omega arith
-
     carries : (d w x r a room : ℕ) → room ≡ a → d + w + r ≤ a → x ≤ w → r ≤ room - (d + x)
     carries d w x r a room p q s = omega arith
 
@@ -131,7 +168,8 @@ rich-on e y l m f fs b bs s p₀ h low high ih =
     sums : (v x l s s′ : ℕ) → v ≤ x → v ≤ l → s ≤ s′ → v + s ≤ min x l + s′
     sums v x l s s′ p q r = omega arith
 
--- a rich store wants nothing at that level: at the reserve of level m it serves, at every level up to m, whatever any charge serves
+-- a rich store wants nothing at that level: at the reserve of level m it serves, at every level up to m, whatever any
+-- charge serves
 pub rich : (e y y′ l m : ℕ) (fs : List Frame) (bs : List ℕ) → l ≤ m → reserve e m fs ≤ y → Feasible e y′ fs bs →
     Serving e y fs l (served l bs)
 unfolding reserve
@@ -142,24 +180,39 @@ rich e y y′ l m (f ∷ fs) (b ∷ bs) s h k =
     ⊎-elim
     (λ (p : f .ceiling ≤ y + f .inflow). rich-full e y y′ l f fs b bs p (k .0) (k .1))
     (λ (p : y + f .inflow < f .ceiling).
-    rich-on e y l m f fs b bs s p (not-full e y m f fs h p) (k .0 .low) (k .0 .high) (λ z q. rich e z (left f y′ b) l m fs bs s q (k .1)))
+    rich-on e y l m f fs b bs s p (not-full e y m f fs h p) (k .0 .low) (k .0 .high)
+    (λ z q. rich e z (left f y′ b) l m fs bs s q (k .1)))
     (le-or-lt (f .ceiling) (y + f .inflow))
 
 -- the missing unit is drawn less in this frame
-unit-here : (e y l : ℕ) (f : Frame) (fs : List Frame) (b : ℕ) (bs : List ℕ) → y + f .inflow < f .ceiling → f .least < b →
+unit-here : (e y l : ℕ) (f : Frame) (fs : List Frame) (b : ℕ) (bs : List ℕ) → y + f .inflow < f .ceiling →
+    f .least < b →
     Allowed f (suc y) b → Feasible e (left f (suc y) b) fs bs → Serving e y (f ∷ fs) l (served l (b ∷ bs) - 1)
 unfolding served
-unit-here e y l f fs b bs p q a k =
-    ((b - 1) ∷ bs, (record { low = omega arith; high = omega (arith, a .high); have = omega (arith, a .have) }, more e (left f (suc y) b) (left f y (b - 1)) fs bs (omega (arith, a .have)) k), omega arith)
+unit-here e y l f fs b bs p q a k = (
+  (b - 1) ∷ bs,
+  (
+    record { low = omega arith; high = omega (arith, a .high); have = omega (arith, a .have) },
+    more e
+        (left f (suc y) b) (left f y (b - 1)) fs bs (omega (arith, a .have)) k,
+  ),
+  omega arith,
+)
 
 -- the missing unit is carried on; w is what is feasible without it
-unit-on : (e y l : ℕ) (f : Frame) (fs : List Frame) (b w : ℕ) (bs ws : List ℕ) → y + f .inflow < f .ceiling → b ≤ f .least →
+unit-on : (e y l : ℕ) (f : Frame) (fs : List Frame) (b w : ℕ) (bs ws : List ℕ) → y + f .inflow < f .ceiling →
+    b ≤ f .least →
     Allowed f y w → Feasible e (left f y w) fs ws → Allowed f (suc y) b →
-    (Feasible e (left f y b) fs ws → Serving e (left f y b) fs l (served l bs - 1)) → Serving e y (f ∷ fs) l (served l (b ∷ bs) - 1)
+    (Feasible e (left f y b) fs ws → Serving e (left f y b) fs l (served l bs - 1)) →
+    Serving e y (f ∷ fs) l (served l (b ∷ bs) - 1)
 unfolding served
 unit-on e y l f fs b w bs ws p q a k v ih =
-    let r = ih (more e (left f y w) (left f y b) fs ws (omega (arith, a .low)) k) in
-    (b ∷ r .0, (record { low = v .low; high = v .high; have = omega (arith, a .low, a .have) }, r .1), omega (arith, r .2))
+    let r = ih (more e (left f y w) (left f y b) fs ws (omega (arith, a .low)) k) in (
+      b ∷ r .0,
+      (record { low = v .low; high = v .high; have = omega (arith, a .low, a .have) }, r .1),
+      omega
+          (arith, r .2),
+    )
 
 -- a unit is worth at most one: what is served with one unit more is served without it, less one at most
 pub unit : (e y l : ℕ) (fs : List Frame) (ws bs : List ℕ) → Feasible e y fs ws → Feasible e (suc y) fs bs →
@@ -189,6 +242,7 @@ pub unit-times : (e y l n : ℕ) (fs : List Frame) (ws bs : List ℕ) → Feasib
     Serving e y fs l (served l bs - n)
 unit-times e y l zero fs ws bs w k = (bs, more e (y + 0) y fs bs (omega arith) k, omega arith)
 unit-times e y l (suc n) fs ws bs w k =
-    let r = unit e (y + n) l fs ws bs (more e y (y + n) fs ws (omega arith) w) (more e (y + suc n) (suc (y + n)) fs bs (omega arith) k) in
+    let r = unit e (y + n) l fs ws bs (more e y (y + n) fs ws (omega arith) w)
+    (more e (y + suc n) (suc (y + n)) fs bs (omega arith) k) in
     let q = unit-times e y l n fs ws (r .0) w (r .1) in
     (q .0, q .1, omega (arith, r .2, q .2))

@@ -7,7 +7,7 @@ use native.Mathlib.Nat.{mul-le-mul-left, add-mul, add-comm}
 use native.Mathlib.Decide.{decLe}
 use native.Mathlib.Omega.{arith}
 use lib.ListN.{length}
-use lib.IntN.{ℤ, pos, _+ℤ_, _-ℤ_}
+use lib.IntN.{ℤ, pos, _+ℤ_, _-ℤ_, +ℤ-idl, +ℤ-assoc}
 use lib.Signed.{_≤ℤ_}
 use lib.Dec.{ltb}
 use borrow.Author.Tests.{ltb-true, lt-ltb}
@@ -32,15 +32,18 @@ worthBySteps s k [] = 0
 worthBySteps s k (b ∷ bs) = firstSteps s (min b k) + worthBySteps s k bs
 
 -- a level more adds its step to every number that reaches it
-level-one : (s : ℕ → ℕ) (k b : ℕ) → firstSteps s (min b (suc k)) + s k * min b k ≡ firstSteps s (min b k) + s k * min b (suc k)
+level-one : (s : ℕ → ℕ) (k b : ℕ) →
+    firstSteps s (min b (suc k)) + s k * min b k ≡ firstSteps s (min b k) + s k * min b (suc k)
 level-one s k b =
     elim (decLe b k) [
       | yes p ↦ (let u : min b (suc k) ≡ b = omega arith in let v : min b k ≡ b = omega arith in rw (u, v) refl)
-      | no p ↦ (let u : min b (suc k) ≡ suc k = omega arith in let v : min b k ≡ k = omega arith in rw (u, v) (omega arith))
+      | no p ↦ (let u : min b (suc k) ≡ suc k = omega arith in let v : min b k ≡ k = omega arith in
+          rw (u, v) (omega arith))
     ]
 
 -- the same for a whole list
-level-more : (s : ℕ → ℕ) (k : ℕ) (bs : List ℕ) → worthBySteps s (suc k) bs + s k * served k bs ≡ worthBySteps s k bs + s k * served (suc k) bs
+level-more : (s : ℕ → ℕ) (k : ℕ) (bs : List ℕ) →
+    worthBySteps s (suc k) bs + s k * served k bs ≡ worthBySteps s k bs + s k * served (suc k) bs
 unfolding served
 level-more s k [] = omega arith
 level-more s k (b ∷ bs) = omega (arith, level-one s k b, level-more s k bs)
@@ -68,16 +71,20 @@ weigh s t vc vb vc′ vb′ wc wb wc′ wb′ h k p q i =
     omega (arith, split-factor s t wc′ h, split-factor s t wb′ h, mul-le-mul-left {m = wc′} {n = wb′} (s - t) k)
 
 -- the weighted comparison at every level
-weighted : (s : ℕ → ℕ) → ((n : ℕ) → s (suc n) ≤ s n) → (bs cs : List ℕ) → ((l : ℕ) → served l cs ≤ served l bs) → (k : ℕ) →
+weighted : (s : ℕ → ℕ) → ((n : ℕ) → s (suc n) ≤ s n) → (bs cs : List ℕ) → ((l : ℕ) → served l cs ≤ served l bs) →
+    (k : ℕ) →
     worthBySteps s k cs + s k * served k bs ≤ worthBySteps s k bs + s k * served k cs
-weighted s falls bs cs h zero = rw (level-none s bs .0, level-none s bs .1, level-none s cs .0, level-none s cs .1) (omega arith)
+weighted s falls bs cs h zero =
+    rw (level-none s bs .0, level-none s bs .1, level-none s cs .0, level-none s cs .1) (omega arith)
 weighted s falls bs cs h (suc k) =
-    weigh (s k) (s (suc k)) (worthBySteps s k cs) (worthBySteps s k bs) (worthBySteps s (suc k) cs) (worthBySteps s (suc k) bs)
+    weigh (s k) (s (suc k)) (worthBySteps s k cs) (worthBySteps s k bs) (worthBySteps s (suc k) cs)
+    (worthBySteps s (suc k) bs)
     (served k cs) (served k bs) (served (suc k) cs) (served (suc k) bs)
     (falls k) (h (suc k)) (level-more s k cs) (level-more s k bs) (weighted s falls bs cs h k)
 
 -- so what serves more at every level is worth more
-served-worth : (s : ℕ → ℕ) → ((n : ℕ) → s (suc n) ≤ s n) → (bs cs : List ℕ) → ((l : ℕ) → served l cs ≤ served l bs) → (k : ℕ) →
+served-worth : (s : ℕ → ℕ) → ((n : ℕ) → s (suc n) ≤ s n) → (bs cs : List ℕ) → ((l : ℕ) → served l cs ≤ served l bs) →
+    (k : ℕ) →
     worthBySteps s k cs ≤ worthBySteps s k bs
 served-worth s falls bs cs h k =
     omega (arith, weighted s falls bs cs h k, mul-le-mul-left {m = served k cs} {n = served k bs} (s k) (h k))
@@ -108,13 +115,13 @@ steps-fall f m q n = step-by f m q n (ltb (suc n) m) refl
 
 -- a table is its number at 0 and its steps
 table-is : (f : ℕ → ℤ) (m : ℕ) → Qualifies f m → (b : ℕ) → b ≤ m → f b ≡ pos (firstSteps (stepOf f m) b) +ℤ f 0
-table-is f m q zero h = sym (int.plus-zero (f 0))
+table-is f m q zero h = sym (+ℤ-idl (f 0))
 table-is f m q (suc b) h =
     let s = stepOf f m b in
     let v = firstSteps (stepOf f m) b in
     step-within f m q b h
     ∙ ap (λ z. pos s +ℤ z) (table-is f m q b (omega arith))
-    ∙ sym (int.plus-assoc (pos s) (pos v) (f 0))
+    ∙ sym (+ℤ-assoc (pos s) (pos v) (f 0))
     ∙ ap (λ n. pos n +ℤ f 0) (add-comm s v)
 
 -- what a list earns is its worth by steps and the table's number at 0 for each entry
@@ -152,7 +159,8 @@ pub level-qualifies : (l m : ℕ) → Qualifies (λ n. pos (min n l)) m
 level-qualifies l m =
     record {
       never-falls = λ n h. int.pos-le (min n l) (min (suc n) l) (omega arith);
-      never-grows = λ n h. int.pos-minus-le (min (suc (suc n)) l) (min (suc n) l) (min (suc n) l) (min n l) (omega arith);
+      never-grows =
+          λ n h. int.pos-minus-le (min (suc (suc n)) l) (min (suc n) l) (min (suc n) l) (min n l) (omega arith);
     }
 
 -- and gives what is served at that level

@@ -1,4 +1,5 @@
--- The tracer's verdict is Definition 1, the frame it names is the earliest below zero, and the traced charges of a feasible list are the charges of the frame rule.
+-- The tracer's verdict is Definition 1, the frame it names is the earliest below zero, and the traced charges of a
+-- feasible list are the charges of the frame rule.
 use mathlib.Core.Path.{_≡_, refl, ap, sym, _∙_}
 use mathlib.Core.Logic.{_↔_}
 use mathlib.Core.Bool.{Bool, true, false, _&&_, not, false≢true}
@@ -12,8 +13,9 @@ use lib.Dec.{leb}
 use borrow.Author.Tests.{leb-true, leb-false, le-leb}
 use Rattle.model.specs.Choice.{pick}
 use Rattle.model.specs.Request.{Request, frameCount}
-use Rattle.model.specs.Charge.{feasibleFrom, feasible, frameEnd, chargesFrom, charges}
-use Rattle.model.specs.Trace.{minZ, chargeAfter, traceFrom, trace, belowFrom, lastFrom, below-zero, end-too-low, is-feasible, verdict, EarliestBelow}
+use Rattle.model.specs.Charge.{atHand, frameEnd, feasibleFrom, feasible, chargesFrom, charges}
+use Rattle.model.specs.Trace.{minZ, excess, tracedEnd, traceFrom, trace, belowFrom, lastFrom, below-zero}
+use Rattle.model.specs.Trace.{end-too-low, is-feasible, verdict, EarliestBelow}
 use Rattle.model.proofs.Integers as int
 use Rattle.model.proofs.Tests.{both}
 
@@ -27,14 +29,22 @@ min-pos : (a b : ℕ) → minZ (pos a) (pos b) ≡ pos (min a b)
 min-pos a b = min-by a b (leb a b) refl
 
 -- a budget within what is at hand leaves the charge of the frame rule
-after-within : (c x h b : ℕ) → b ≤ x + h → chargeAfter c (pos x) h b ≡ pos (frameEnd c x h b .charge)
-after-within c x h b l = ap (minZ (pos c)) (int.minus-pos (x + h) b l) ∙ min-pos c (x + h - b)
+after-within : (c x h b : ℕ) → b ≤ atHand c x h → tracedEnd c (pos x) h b .charge ≡ pos (frameEnd c x h b .charge)
+after-within c x h b l = ap (minZ (pos c)) (int.minus-pos (atHand c x h) b l) ∙ min-pos c (atHand c x h - b)
+
+-- and loses what the frame rule loses: where the budget is at hand, the traced end is the frame rule's
+pub traced-within : (c x h b : ℕ) → b ≤ atHand c x h →
+    tracedEnd c (pos x) h b ≡ record { charge = pos (frameEnd c x h b .charge); lost = frameEnd c x h b .lost }
+traced-within c x h b l =
+    ap (λ (z : ℤ). record { charge = minZ (pos c) z; lost = excess z c }) (int.minus-pos (atHand c x h) b l)
+    ∙ ap (λ (z : ℤ). record { charge = z; lost = frameEnd c x h b .lost }) (min-pos c (atHand c x h - b))
 
 -- a budget above it leaves a charge below zero
-after-over : (c x h b : ℕ) → x + h < b → chargeAfter c (pos x) h b ≡ negsuc (b - suc (x + h))
-after-over c x h b l = ap (minZ (pos c)) (int.minus-neg (x + h) b l)
+after-over : (c x h b : ℕ) → atHand c x h < b → tracedEnd c (pos x) h b .charge ≡ negsuc (b - suc (atHand c x h))
+after-over c x h b l = ap (minZ (pos c)) (int.minus-neg (atHand c x h) b l)
 
--- the traced charges are accepted: none but the last is below zero, and the last is at least the end charge e; x is the charge before them
+-- the traced charges are accepted: none but the last is below zero, and the last is at least the end charge e; x is
+-- the charge before them
 abbrev accepted : ℕ → ℕ → ℤ → List ℤ → Bool
 accepted k e x zs = not (leb 1 (belowFrom k zs)) && leZ (pos e) (lastFrom x zs)
 
@@ -51,17 +61,19 @@ accepted-neg k e n x (z ∷ zs) = ap (λ t. not t && leZ (pos e) (lastFrom z zs)
 -- one frame, by whether its budget is within what is at hand
 frame-by : (c e x k h b : ℕ) (hs bs : List ℕ) →
     ((y : ℕ) → feasibleFrom c e y hs bs ≡ accepted (suc (suc k)) e (pos y) (traceFrom c (pos y) hs bs)) →
-    (t : Bool) → leb b (x + h) ≡ t →
-    (t && feasibleFrom c e (frameEnd c x h b .charge) hs bs) ≡ accepted (suc k) e (pos x) (traceFrom c (pos x) (h ∷ hs) (b ∷ bs))
+    (t : Bool) → leb b (atHand c x h) ≡ t →
+    (t && feasibleFrom c e (frameEnd c x h b .charge) hs bs) ≡ accepted (suc k) e (pos x)
+    (traceFrom c (pos x) (h ∷ hs) (b ∷ bs))
 frame-by c e x k h b hs bs i true p =
     let y = frameEnd c x h b .charge in
     i y
     ∙ sym (accepted-pos (suc k) e y (pos x) (traceFrom c (pos y) hs bs))
-    ∙ sym (ap (λ z. accepted (suc k) e (pos x) (z ∷ traceFrom c z hs bs)) (after-within c x h b (leb-true b (x + h) p)))
+    ∙ sym (ap (λ z. accepted (suc k) e (pos x) (z ∷ traceFrom c z hs bs))
+    (after-within c x h b (leb-true b (atHand c x h) p)))
 frame-by c e x k h b hs bs i false p =
-    let n = b - suc (x + h) in
+    let n = b - suc (atHand c x h) in
     sym
-    (ap (λ z. accepted (suc k) e (pos x) (z ∷ traceFrom c z hs bs)) (after-over c x h b (leb-false b (x + h) p))
+    (ap (λ z. accepted (suc k) e (pos x) (z ∷ traceFrom c z hs bs)) (after-over c x h b (leb-false b (atHand c x h) p))
     ∙ accepted-neg k e n (pos x) (traceFrom c (negsuc n) hs bs))
 
 -- Definition 1 is the test of the traced charges
@@ -71,35 +83,39 @@ feasible-is c e x k [] [] l = refl
 feasible-is c e x k [] (b ∷ bs) l = absurd (omega arith)
 feasible-is c e x k (h ∷ hs) [] l = absurd (omega arith)
 feasible-is c e x k (h ∷ hs) (b ∷ bs) l =
-    frame-by c e x k h b hs bs (λ y. feasible-is c e y (suc k) hs bs (omega arith)) (leb b (x + h)) refl
+    frame-by c e x k h b hs bs (λ y. feasible-is c e y (suc k) hs bs (omega arith)) (leb b (atHand c x h)) refl
 
 -- the verdict by its two tests
-verdict-by : (k : ℕ) (s t : Bool) → (pick s (below-zero k) (pick t is-feasible end-too-low) ≡ is-feasible) ↔ ((not s && t) ≡ true)
+verdict-by : (k : ℕ) (s t : Bool) →
+    (pick s (below-zero k) (pick t is-feasible end-too-low) ≡ is-feasible) ↔ ((not s && t) ≡ true)
 verdict-by k true t = (λ e. cc, λ e. absurd (false≢true e))
 verdict-by k false true = (λ e. refl, λ e. refl)
 verdict-by k false false = (λ e. cc, λ e. absurd (false≢true e))
 
 -- the verdict is "feasible" exactly where the budgets are
-pub verdict-feasible : (r : Request) (bs : List ℕ) → length bs ≡ frameCount r → (verdict r bs ≡ is-feasible) ↔ (feasible r bs ≡ true)
+pub verdict-feasible : (r : Request) (bs : List ℕ) → length bs ≡ frameCount r →
+    (verdict r bs ≡ is-feasible) ↔ (feasible r bs ≡ true)
 verdict-feasible r bs l =
     let zs = trace r bs in
-    let v = verdict-by (belowFrom 1 zs) (leb 1 (belowFrom 1 zs)) (leZ (pos (r .end)) (lastFrom (pos (r .start)) zs)) in
-    let f = feasible-is (r .capacity) (r .end) (r .start) 0 (r .harvest) bs l in
+    let v = verdict-by (belowFrom 1 zs) (leb 1 (belowFrom 1 zs))
+    (leZ (pos (r .figures .end)) (lastFrom (pos (r .figures .start)) zs)) in
+    let f = feasible-is (r .figures .capacity) (r .figures .end) (r .figures .start) 0 (r .harvest) bs l in
     (λ e. f ∙ v .0 e, λ e. v .1 (sym f ∙ e))
 
 -- the charges of budgets feasible from charge x
-trace-from : (c e x : ℕ) (hs bs : List ℕ) → feasibleFrom c e x hs bs ≡ true → traceFrom c (pos x) hs bs ≡ map pos (chargesFrom c x hs bs)
+trace-from : (c e x : ℕ) (hs bs : List ℕ) → feasibleFrom c e x hs bs ≡ true →
+    traceFrom c (pos x) hs bs ≡ map pos (chargesFrom c x hs bs)
 trace-from c e x [] bs f = refl
 trace-from c e x (h ∷ hs) [] f = refl
 trace-from c e x (h ∷ hs) (b ∷ bs) f =
     let y = frameEnd c x h b .charge in
-    let p = both (leb b (x + h)) (feasibleFrom c e y hs bs) f in
-    ap (λ z. z ∷ traceFrom c z hs bs) (after-within c x h b (leb-true b (x + h) (p .0)))
+    let p = both (leb b (atHand c x h)) (feasibleFrom c e y hs bs) f in
+    ap (λ z. z ∷ traceFrom c z hs bs) (after-within c x h b (leb-true b (atHand c x h) (p .0)))
     ∙ ap (λ zs. pos y ∷ zs) (trace-from c e y hs bs (p .1))
 
 -- the traced charges of feasible budgets are their charges
 pub trace-charges : (r : Request) (bs : List ℕ) → feasible r bs ≡ true → trace r bs ≡ map pos (charges r bs)
-trace-charges r bs f = trace-from (r .capacity) (r .end) (r .start) (r .harvest) bs f
+trace-charges r bs f = trace-from (r .figures .capacity) (r .figures .end) (r .figures .start) (r .harvest) bs f
 
 -- budgets feasible from charge x are one for each harvest
 length-from : (c e x : ℕ) (hs bs : List ℕ) → feasibleFrom c e x hs bs ≡ true → length bs ≡ length hs
@@ -108,11 +124,11 @@ length-from c e x [] (b ∷ bs) f = absurd (false≢true f)
 length-from c e x (h ∷ hs) [] f = absurd (false≢true f)
 length-from c e x (h ∷ hs) (b ∷ bs) f =
     let y = frameEnd c x h b .charge in
-    ap suc (length-from c e y hs bs (both (leb b (x + h)) (feasibleFrom c e y hs bs) f .1))
+    ap suc (length-from c e y hs bs (both (leb b (atHand c x h)) (feasibleFrom c e y hs bs) f .1))
 
 -- feasible budgets are one for each frame
 pub feasible-length : (r : Request) (bs : List ℕ) → feasible r bs ≡ true → length bs ≡ frameCount r
-feasible-length r bs f = length-from (r .capacity) (r .end) (r .start) (r .harvest) bs f
+feasible-length r bs f = length-from (r .figures .capacity) (r .figures .end) (r .figures .start) (r .harvest) bs f
 
 -- a charge not below zero in front moves the place by one
 earliest-after : (i y : ℕ) (zs : List ℤ) → EarliestBelow i zs → EarliestBelow (suc i) (pos y ∷ zs)
@@ -126,23 +142,26 @@ earliest-after i y zs w = record { not-last = omega arith; below = w .below; bef
 below-at : (k n : ℕ) (zs : List ℤ) → belowFrom k zs ≡ suc n → (i : ℕ) × (suc n ≡ k + i) × EarliestBelow i zs
 below-at k n [] e = absurd (omega arith)
 below-at k n (z ∷ []) e = absurd (omega arith)
-below-at k n (negsuc m ∷ (z ∷ zs)) e = (0, omega arith, record { not-last = omega arith; below = refl; before = λ j h. absurd (omega arith) })
+below-at k n (negsuc m ∷ (z ∷ zs)) e =
+    (0, omega arith, record { not-last = omega arith; below = refl; before = λ j h. absurd (omega arith) })
 below-at k n (pos y ∷ (z ∷ zs)) e =
     let w = below-at (suc k) n (z ∷ zs) e in
     (suc (w .0), omega (arith, w .1), earliest-after (w .0) y (z ∷ zs) (w .2))
 
 -- the frame of the verdict, by its two tests
-frame-of : (k n : ℕ) (t : Bool) (s : Bool) → leb 1 k ≡ s → pick s (below-zero k) (pick t is-feasible end-too-low) ≡ below-zero n → (k ≡ n) × (1 ≤ k)
+frame-of : (k n : ℕ) (t : Bool) (s : Bool) → leb 1 k ≡ s →
+    pick s (below-zero k) (pick t is-feasible end-too-low) ≡ below-zero n → (k ≡ n) × (1 ≤ k)
 frame-of k n t true p e = (cc, leb-true 1 k p)
 frame-of k n true false p e = absurd (let z : _≡_ {A = ℕ} 0 1 = cc in omega arith)
 frame-of k n false false p e = absurd (let z : _≡_ {A = ℕ} 0 1 = cc in omega arith)
 
 -- a verdict that names a frame names the earliest, the last left out, whose charge is below zero
-pub verdict-below : (r : Request) (bs : List ℕ) (n : ℕ) → verdict r bs ≡ below-zero n → (i : ℕ) × (n ≡ suc i) × EarliestBelow i (trace r bs)
+pub verdict-below : (r : Request) (bs : List ℕ) (n : ℕ) → verdict r bs ≡ below-zero n →
+    (i : ℕ) × (n ≡ suc i) × EarliestBelow i (trace r bs)
 verdict-below r bs n e =
     let zs = trace r bs in
     let k = belowFrom 1 zs in
-    let f = frame-of k n (leZ (pos (r .end)) (lastFrom (pos (r .start)) zs)) (leb 1 k) refl e in
+    let f = frame-of k n (leZ (pos (r .figures .end)) (lastFrom (pos (r .figures .start)) zs)) (leb 1 k) refl e in
     let p : k ≡ suc (n - 1) = omega arith in
     let w = below-at 1 (n - 1) zs p in
     (w .0, omega (arith, w .1), w .2)

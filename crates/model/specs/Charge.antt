@@ -1,32 +1,33 @@
 -- The charge after a frame, and Definition 1 of the source: which assignments are feasible.
-use mathlib.Core.Bool.{Bool, true, false, _&&_}
+use mathlib.Core.Bool.{Bool, false, _&&_}
 use mathlib.Core.List.{List, [], _∷_}
 use Prim.Native.Nat.{ℕ, _+_, _-_, min}
 use lib.Dec.{leb}
 use Rattle.model.specs.Request.{Request}
 
--- what a frame has at hand: the charge before it and its harvest
-abbrev pub atHand : ℕ → ℕ → ℕ
-atHand x h = x + h
+-- what a frame has at hand: the charge x before it and its harvest h, all of which it can use, whatever the capacity c
+abbrev pub atHand : ℕ → ℕ → ℕ → ℕ
+atHand c x h = x + h
 
 -- what a frame ends with: the charge, and what was lost because the store was full
 pub record FrameEnd : Type 0 where
   pub charge : ℕ
   pub lost : ℕ
 
--- the frame rule: capacity c, charge x before, harvest h, budget b with b ≤ atHand x h
+-- the frame rule: capacity c, charge x before, harvest h, budget b with b ≤ atHand c x h. The tracer's is its
+-- extension below zero
 abbrev pub frameEnd : ℕ → ℕ → ℕ → ℕ → FrameEnd
-frameEnd c x h b = record { charge = min c (atHand x h - b); lost = atHand x h - b - c }
+frameEnd c x h b = record { charge = min c (atHand c x h - b); lost = atHand c x h - b - c }
 
 -- feasible from charge x: no budget above what is at hand, and the end charge e reached after the last frame
 abbrev pub feasibleFrom : ℕ → ℕ → ℕ → List ℕ → List ℕ → Bool
 feasibleFrom c e x [] [] = leb e x
 feasibleFrom c e x [] (b ∷ bs) = false
 feasibleFrom c e x (h ∷ hs) [] = false
-feasibleFrom c e x (h ∷ hs) (b ∷ bs) = leb b (atHand x h) && feasibleFrom c e (frameEnd c x h b .charge) hs bs
+feasibleFrom c e x (h ∷ hs) (b ∷ bs) = leb b (atHand c x h) && feasibleFrom c e (frameEnd c x h b .charge) hs bs
 
 abbrev pub feasible : Request → List ℕ → Bool
-feasible r bs = feasibleFrom (r .capacity) (r .end) (r .start) (r .harvest) bs
+feasible r bs = feasibleFrom (r .figures .capacity) (r .figures .end) (r .figures .start) (r .harvest) bs
 
 -- the charge after each frame of an assignment
 abbrev pub chargesFrom : ℕ → ℕ → List ℕ → List ℕ → List ℕ
@@ -35,14 +36,14 @@ chargesFrom c x (h ∷ hs) [] = []
 chargesFrom c x (h ∷ hs) (b ∷ bs) = let y = frameEnd c x h b .charge in y ∷ chargesFrom c y hs bs
 
 abbrev pub charges : Request → List ℕ → List ℕ
-charges r bs = chargesFrom (r .capacity) (r .start) (r .harvest) bs
+charges r bs = chargesFrom (r .figures .capacity) (r .figures .start) (r .harvest) bs
 
 -- unlimited storage: the same rule with nothing lost
 abbrev pub feasibleUnlimitedFrom : ℕ → ℕ → List ℕ → List ℕ → Bool
 feasibleUnlimitedFrom e x [] [] = leb e x
 feasibleUnlimitedFrom e x [] (b ∷ bs) = false
 feasibleUnlimitedFrom e x (h ∷ hs) [] = false
-feasibleUnlimitedFrom e x (h ∷ hs) (b ∷ bs) = leb b (atHand x h) && feasibleUnlimitedFrom e (atHand x h - b) hs bs
+feasibleUnlimitedFrom e x (h ∷ hs) (b ∷ bs) = leb b (x + h) && feasibleUnlimitedFrom e (x + h - b) hs bs
 
 abbrev pub feasibleUnlimited : Request → List ℕ → Bool
-feasibleUnlimited r bs = feasibleUnlimitedFrom (r .end) (r .start) (r .harvest) bs
+feasibleUnlimited r bs = feasibleUnlimitedFrom (r .figures .end) (r .figures .start) (r .harvest) bs

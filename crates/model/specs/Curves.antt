@@ -1,8 +1,8 @@
 -- The three house curves: four edges, five gains per unit.
-use mathlib.Core.Bool.{Bool, true, false, _&&_}
+use mathlib.Core.Bool.{Bool, true, _&&_}
 use mathlib.Core.List.{List, [], _∷_}
 use Prim.Native.Nat.{ℕ, zero, suc, _+_}
-use lib.Dec.{leb, eqb}
+use lib.Dec.{leb}
 use Rattle.model.specs.Choice.{pick}
 
 pub record Curve : Type 0 where

@@ -1,7 +1,8 @@
--- Demands 2 and 3 as statements about a request, whatever its size. They are proved in proofs/Request.antt and proofs/Needed.antt.
+-- Demands 2 and 3 as statements about a request, whatever its size. They are proved in proofs/Request.antt and
+-- proofs/Needed.antt.
 use mathlib.Core.Path.{_≡_}
-use mathlib.Core.Bool.{Bool, true, false}
-use mathlib.Core.List.{List, [], _∷_}
+use mathlib.Core.Bool.{true, false}
+use mathlib.Core.List.{List}
 use lib.IntN.{ℤ}
 use lib.ListN.{getD}
 use Prim.Native.Nat.{ℕ, _≤_, _<_}
@@ -14,10 +15,10 @@ use Rattle.model.specs.Plan.{planOf, neededOf}
 -- for every request with start ≤ capacity and end ≤ capacity
 pub record PlanDemand (r : Request) : Type 0 where
   -- something is feasible exactly when start plus all harvest reaches the end charge
-  pub within-reach : r .end ≤ mostEnergy r → (bs : List ℕ) × (feasible r bs ≡ true)
-  pub out-of-reach : mostEnergy r < r .end → (bs : List ℕ) → feasible r bs ≡ false
+  pub within-reach : r .figures .end ≤ mostEnergy r → (bs : List ℕ) × (feasible r bs ≡ true)
+  pub out-of-reach : mostEnergy r < r .figures .end → (bs : List ℕ) → feasible r bs ≡ false
   -- then planOf is the plan: feasible, best for every qualifying table, and it takes more at the first difference
-  pub is-plan : r .end ≤ mostEnergy r → IsPlan r (planOf r)
+  pub is-plan : r .figures .end ≤ mostEnergy r → IsPlan r (planOf r)
   -- no other list is
   pub only-plan : (bs : List ℕ) → IsPlan r bs → bs ≡ planOf r
   -- counting each budget up to a level, no feasible list serves more

@@ -1,5 +1,6 @@
--- The theory's general frame: any ceiling, drain, least and most. Every charge rule is a way to turn a request into frames.
-use mathlib.Core.Bool.{Bool, true, false}
+-- The theory's general frame: any ceiling, drain, least and most. Every charge rule is a way to turn a request into
+-- frames.
+use mathlib.Core.Bool.{true, false}
 use mathlib.Core.List.{List, [], _∷_}
 use Prim.Native.Nat.{ℕ, zero, suc, _+_, _-_, _≤_, min, max}
 use lib.Dec.{leb}
@@ -40,10 +41,12 @@ unfoldable pub reserve : ℕ → ℕ → List Frame → ℕ
 reserve e l [] = e
 reserve e l (f ∷ fs) = min (f .ceiling - f .inflow) (f .drain + draw f l + reserve e l fs - f .inflow)
 
--- the largest budget from lo to lo + n that leaves the reserve of one level below it, of what a frame has (a); lo if none does
+-- the largest budget from lo to lo + n that leaves the reserve of one level below it, of what a frame has (a); lo if
+-- none does
 unfoldable pub largest : ℕ → List Frame → ℕ → ℕ → ℕ → ℕ
 largest e fs a lo zero = lo
-largest e fs a lo (suc n) = elim (leb (lo + suc n + reserve e (lo + n) fs) a) [ true ↦ lo + suc n | false ↦ largest e fs a lo n ]
+largest e fs a lo (suc n) =
+    elim (leb (lo + suc n + reserve e (lo + n) fs) a) [ true ↦ lo + suc n | false ↦ largest e fs a lo n ]
 
 -- the plan's budget of frame f, followed by fs, from charge y
 unfoldable pub budget : ℕ → ℕ → Frame → List Frame → ℕ

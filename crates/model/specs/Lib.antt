@@ -1,5 +1,6 @@
 -- Document 01's terms in its own order, then the theory over general frames that computes the plan.
 pub mod Choice
+pub mod Lent
 pub mod Limits
 pub mod Request
 pub mod Refusals

@@ -1,13 +1,17 @@
 -- The limits of document 01, each named once.
-use Prim.Native.Nat.{ℕ}
+use Prim.Native.Nat.{ℕ, _+_, _*_}
 
 -- the most frames of a request
 abbrev pub maxFrames : ℕ
 maxFrames = 2976
 
--- the most bytes of a word file
+-- the words of a word file beside its harvests: three figures and the end word
+abbrev pub otherWords : ℕ
+otherWords = 4
+
+-- the most bytes of a word file: four for each word of a request of the most frames
 abbrev pub maxFileBytes : ℕ
-maxFileBytes = 11920
+maxFileBytes = 4 * (maxFrames + otherWords)
 
 -- the largest harvest of a frame
 abbrev pub maxHarvest : ℕ

@@ -1,6 +1,7 @@
--- The plan and the needed capacity of a request as computing definitions. That they are what demands 2 and 3 ask is proved (proofs/).
+-- The plan and the needed capacity of a request as computing definitions. That they are what demands 2 and 3 ask is
+-- proved (proofs/).
 use mathlib.Core.List.{List, [], _∷_}
-use Prim.Native.Nat.{ℕ, _+_, _-_, max}
+use Prim.Native.Nat.{ℕ, _+_, max}
 use Rattle.model.specs.Request.{Request, total, mostEnergy}
 use Rattle.model.specs.Frames.{Frame, plan, peak}
 
@@ -14,16 +15,17 @@ framesOf c m (h ∷ hs) = frameOf c m h ∷ framesOf c m hs
 
 -- the plan
 unfoldable pub planOf : Request → List ℕ
-planOf r = plan (r .end) (r .start) (framesOf (r .capacity) (mostEnergy r) (r .harvest))
+planOf r = plan (r .figures .end) (r .figures .start) (framesOf (r .figures .capacity) (mostEnergy r) (r .harvest))
 
 -- a capacity that no charge meets
 abbrev pub boundless : Request → ℕ
-boundless r = r .start + (r .end + total (r .harvest))
+boundless r = r .figures .start + (r .figures .end + total (r .harvest))
 
 -- the plan without limit
 unfoldable pub openPlan : Request → List ℕ
-openPlan r = plan (r .end) (r .start) (framesOf (boundless r) (mostEnergy r) (r .harvest))
+openPlan r = plan (r .figures .end) (r .figures .start) (framesOf (boundless r) (mostEnergy r) (r .harvest))
 
 -- the needed capacity: the greatest of the start, the end and what the plan without limit requires after each frame
 unfoldable pub neededOf : Request → ℕ
-neededOf r = max (r .start) (max (r .end) (peak (r .end) (framesOf (boundless r) (mostEnergy r) (r .harvest)) (openPlan r)))
+neededOf r = max (r .figures .start)
+    (max (r .figures .end) (peak (r .figures .end) (framesOf (boundless r) (mostEnergy r) (r .harvest)) (openPlan r)))

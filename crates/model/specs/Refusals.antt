@@ -1,12 +1,15 @@
--- Refusals 1 to 9 of document 01, each with its P; of a list of refusals the first that holds is given.
+-- Refusals 1 to 7 and 9 of document 01, each with its P. An entry has a list of them, in its order; the first that
+-- holds is given.
+use mathlib.Core.Path.{_≡_}
 use mathlib.Core.Bool.{Bool, true, false, not}
 use mathlib.Core.List.{List, [], _∷_, _++_}
-use Prim.Native.Nat.{ℕ, zero, suc, _+_, _-_}
-use lib.Dec.{eqb, ltb, leb}
+use Prim.Native.Nat.{ℕ, suc, _-_}
+use lib.Dec.{eqb, ltb}
 use Rattle.model.specs.declared.Refusal.{Refusal}
 use Rattle.model.specs.Choice.{pick}
 use Rattle.model.specs.Limits.{maxFrames, maxHarvest, maxCapacity}
-use Rattle.model.specs.Request.{Request, frameCount, total}
+use Rattle.model.specs.declared.Figures.{Figures}
+use Rattle.model.specs.Request.{Request, frameCount, mostEnergy}
 
 -- refusal number n with its P
 abbrev pub refusal : ℕ → ℕ → Refusal
@@ -28,6 +31,11 @@ abbrev pub firstOf : List Refusal → Refusal
 firstOf [] = none
 firstOf (f ∷ fs) = pick (isNone f) (firstOf fs) f
 
+-- no refusal of a list holds: then, and only then, the first is none (proofs/First.antt)
+abbrev pub AllNone : List Refusal → Type 0
+AllNone [] = Unit {0}
+AllNone (f ∷ fs) = (isNone f ≡ true) × AllNone fs
+
 -- 1: no frames
 abbrev pub noFrames : ℕ → Refusal
 noFrames k = refuseIf (eqb k 0) 1
@@ -45,12 +53,12 @@ abbrev pub overCapacityLimit : ℕ → Refusal
 overCapacityLimit c = refuseIf (ltb maxCapacity c) 3
 
 -- 4: start above capacity
-abbrev pub startAboveCapacity : Request → Refusal
-startAboveCapacity r = refuseIf (ltb (r .capacity) (r .start)) 4
+abbrev pub startAboveCapacity : Figures → Refusal
+startAboveCapacity f = refuseIf (ltb (f .capacity) (f .start)) 4
 
 -- 5: end above capacity
-abbrev pub endAboveCapacity : Request → Refusal
-endAboveCapacity r = refuseIf (ltb (r .capacity) (r .end)) 5
+abbrev pub endAboveCapacity : Figures → Refusal
+endAboveCapacity f = refuseIf (ltb (f .capacity) (f .end)) 5
 
 -- 6: a harvest above its limit; P is the earliest such frame, the first of the list being frame k
 abbrev pub harvestOverLimit : ℕ → List ℕ → Refusal
@@ -59,48 +67,60 @@ harvestOverLimit k (h ∷ hs) = elim (ltb maxHarvest h) [ true ↦ refusal 6 k |
 
 -- 9: start plus all harvest is below the end charge; P is the amount missing
 abbrev pub outOfReach : Request → Refusal
-outOfReach r =
-    let reach = r .start + total (r .harvest) in
-    pick (ltb reach (r .end)) (refusal 9 (r .end - reach)) none
+outOfReach r = pick (ltb (mostEnergy r) (r .figures .end)) (refusal 9 (r .figures .end - mostEnergy r)) none
 
--- 1, 2: the number of frames
+-- of a number of frames
 abbrev pub framesRefusals : ℕ → List Refusal
 framesRefusals k = noFrames k ∷ tooManyFrames k ∷ []
 
--- 3, 4, 5, 6: the figures of a request
+-- of a request's figures and harvests
 abbrev pub figureRefusals : Request → List Refusal
 figureRefusals r =
-    overCapacityLimit (r .capacity) ∷ startAboveCapacity r ∷ endAboveCapacity r ∷ harvestOverLimit 1 (r .harvest) ∷ []
+    overCapacityLimit (r .figures .capacity)
+    ∷ startAboveCapacity (r .figures)
+    ∷ endAboveCapacity (r .figures)
+    ∷ harvestOverLimit 1 (r .harvest)
+    ∷ []
 
--- planning: 1, 2, 7, 3, 4, 5, 6, 9, with a budget list of n entries
+-- of planning, with a budget list of n entries
+abbrev pub planRefusals : Request → ℕ → List Refusal
+planRefusals r n =
+    framesRefusals (frameCount r) ++ (wrongLength (frameCount r) n ∷ (figureRefusals r ++ (outOfReach r ∷ [])))
+
 abbrev pub planRefusal : Request → ℕ → Refusal
-planRefusal r n =
-    firstOf (framesRefusals (frameCount r) ++ (wrongLength (frameCount r) n ∷ (figureRefusals r ++ (outOfReach r ∷ []))))
+planRefusal r n = firstOf (planRefusals r n)
 
--- the needed capacity: 1, 2, 3 for start or end, 6, 9
-abbrev pub neededRefusal : Request → Refusal
-neededRefusal r =
-    firstOf
-    (framesRefusals (frameCount r)
-    ++ (overCapacityLimit (r .start)
-    ∷ overCapacityLimit (r .end)
+-- of the needed capacity, in which the capacity plays no part: 3 is for start and end
+abbrev pub neededRefusals : Request → List Refusal
+neededRefusals r =
+    framesRefusals (frameCount r)
+    ++ (overCapacityLimit (r .figures .start)
+    ∷ overCapacityLimit (r .figures .end)
     ∷ harvestOverLimit 1 (r .harvest)
     ∷ outOfReach r
-    ∷ []))
+    ∷ [])
 
--- tracing: 1, 2, 7, 3, 4, 5, 6, with a budget list of n and a charge list of m entries
+abbrev pub neededRefusal : Request → Refusal
+neededRefusal r = firstOf (neededRefusals r)
+
+-- of tracing, with a budget list of n and a charge list of m entries
+abbrev pub traceRefusals : Request → ℕ → ℕ → List Refusal
+traceRefusals r n m =
+    framesRefusals (frameCount r) ++ (wrongLength (frameCount r) n ∷ wrongLength (frameCount r) m ∷ figureRefusals r)
+
 abbrev pub traceRefusal : Request → ℕ → ℕ → Refusal
-traceRefusal r n m =
-    firstOf
-    (framesRefusals (frameCount r) ++ (wrongLength (frameCount r) n ∷ wrongLength (frameCount r) m ∷ figureRefusals r))
+traceRefusal r n m = firstOf (traceRefusals r n m)
 
--- grading: 1, 2
+-- of grading a list of k budgets
 abbrev pub gradeRefusal : ℕ → Refusal
 gradeRefusal k = firstOf (framesRefusals k)
 
--- starting a shift: 1, 2, 3, 4, 5, 6, 9
+-- of starting a shift
+abbrev pub startRefusals : Request → List Refusal
+startRefusals r = framesRefusals (frameCount r) ++ (figureRefusals r ++ (outOfReach r ∷ []))
+
 abbrev pub startRefusal : Request → Refusal
-startRefusal r = firstOf (framesRefusals (frameCount r) ++ (figureRefusals r ++ (outOfReach r ∷ [])))
+startRefusal r = firstOf (startRefusals r)
 
 -- what an entry answers: a value, or a refusal. Each answer type of the code has a definition into this
 pub data Outcome (A : Type 0) : Type 0 where

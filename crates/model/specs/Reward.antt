@@ -34,7 +34,8 @@ takesMore [] cs = false
 takesMore (b ∷ bs) [] = false
 takesMore (b ∷ bs) (c ∷ cs) = ltb c b || (eqb b c && takesMore bs cs)
 
--- demand 3: the plan is feasible, best for every table, and takes more at the first difference than any other such list
+-- demand 3: the plan is feasible, best for every table, and takes more at the first difference than any other such
+-- list
 pub record IsPlan (r : Request) (bs : List ℕ) : Type 0 where
   pub is-feasible : feasible r bs ≡ true
   pub is-best : BestForAll r bs
@@ -53,7 +54,7 @@ Serves r c =
 
 -- the needed capacity: the least, at least start and end charge, that serves every table as unlimited storage does
 pub record IsNeeded (r : Request) (c : ℕ) : Type 0 where
-  pub over-start : r .start ≤ c
-  pub over-end : r .end ≤ c
+  pub over-start : r .figures .start ≤ c
+  pub over-end : r .figures .end ≤ c
   pub serves : Serves r c
-  pub least : (d : ℕ) → r .start ≤ d → r .end ≤ d → Serves r d → c ≤ d
+  pub least : (d : ℕ) → r .figures .start ≤ d → r .figures .end ≤ d → Serves r d → c ≤ d

@@ -1,31 +1,44 @@
 -- The tracer: charges of any budgets as whole numbers, below zero included, and the verdict.
 use mathlib.Core.Path.{_≡_}
-use mathlib.Core.Bool.{Bool, true, false, _&&_, not}
+use mathlib.Core.Bool.{true, false}
 use mathlib.Core.List.{List, [], _∷_}
 use lib.IntN.{ℤ, pos, negsuc, _+ℤ_, _-ℤ_}
 use lib.Signed.{leZ, nonNeg}
-use Prim.Native.Nat.{ℕ, zero, suc, _<_}
-use lib.Dec.{eqb, leb}
+use Prim.Native.Nat.{ℕ, zero, suc, _-_, _<_}
+use lib.Dec.{leb}
 use lib.ListN.{length, getD}
 use Rattle.model.specs.Choice.{pick}
 use Rattle.model.specs.Request.{Request}
+use Rattle.model.specs.declared.frame.TracedEnd.{TracedEnd}
 
 -- the smaller of two whole numbers
 abbrev pub minZ : ℤ → ℤ → ℤ
 minZ a b = pick (leZ a b) a b
 
--- the charge after a frame: the smaller of the capacity and charge before + harvest − budget
-abbrev pub chargeAfter : ℕ → ℤ → ℕ → ℕ → ℤ
-chargeAfter c x h b = minZ (pos c) ((x +ℤ pos h) -ℤ pos b)
+-- the amount by which a whole number exceeds a natural one; below zero nothing does
+abbrev pub excess : ℤ → ℕ → ℕ
+excess (pos n) c = n - c
+excess (negsuc n) c = 0
+
+-- what a frame has at hand, its charge before being any whole number
+abbrev pub atHandZ : ℕ → ℤ → ℕ → ℤ
+atHandZ c x h = x +ℤ pos h
+
+-- the frame rule extended below zero: any budget, any charge before. That it is `frameEnd` where the budget is at
+-- hand is a law (proofs/Trace.antt)
+abbrev pub tracedEnd : ℕ → ℤ → ℕ → ℕ → TracedEnd
+tracedEnd c x h b =
+    let left = atHandZ c x h -ℤ pos b in
+    record { charge = minZ (pos c) left; lost = excess left c }
 
 -- the charge after each frame
 abbrev pub traceFrom : ℕ → ℤ → List ℕ → List ℕ → List ℤ
 traceFrom c x [] bs = []
 traceFrom c x (h ∷ hs) [] = []
-traceFrom c x (h ∷ hs) (b ∷ bs) = let y = chargeAfter c x h b in y ∷ traceFrom c y hs bs
+traceFrom c x (h ∷ hs) (b ∷ bs) = let y = tracedEnd c x h b .charge in y ∷ traceFrom c y hs bs
 
 abbrev pub trace : Request → List ℕ → List ℤ
-trace r bs = traceFrom (r .capacity) (pos (r .start)) (r .harvest) bs
+trace r bs = traceFrom (r .figures .capacity) (pos (r .figures .start)) (r .harvest) bs
 
 -- the earliest frame below zero among all but the last, the first being frame k; 0 for none
 abbrev pub belowFrom : ℕ → List ℤ → ℕ
@@ -48,9 +61,11 @@ abbrev pub verdict : Request → List ℕ → Verdict
 verdict r bs =
     let zs = trace r bs in
     let k = belowFrom 1 zs in
-    pick (leb 1 k) (below-zero k) (pick (leZ (pos (r .end)) (lastFrom (pos (r .start)) zs)) is-feasible end-too-low)
+    pick (leb 1 k) (below-zero k)
+    (pick (leZ (pos (r .figures .end)) (lastFrom (pos (r .figures .start)) zs)) is-feasible end-too-low)
 
--- what it is to be the earliest frame below zero: place i, from 0, is not the last, its charge is below zero, and none before it is
+-- what it is to be the earliest frame below zero: place i, from 0, is not the last, its charge is below zero, and
+-- none before it is
 pub record EarliestBelow (i : ℕ) (zs : List ℤ) : Type 0 where
   pub not-last : suc i < length zs
   pub below : nonNeg (getD zs i (pos 0)) ≡ false

@@ -3,8 +3,11 @@
 // The most frames of a request.
 pub const MAX_FRAMES: usize = 2976;
 
-// The most bytes of a word file.
-pub const MAX_FILE_BYTES: usize = 11920;
+// The words of a word file beside its harvests: three figures and the end word.
+const OTHER_WORDS: usize = 4;
+
+// The most bytes of a word file: four for each word of a request of the most frames.
+pub const MAX_FILE_BYTES: usize = 4 * (MAX_FRAMES + OTHER_WORDS);
 
 // The largest harvest of a frame.
 pub const MAX_HARVEST: u32 = 400_000;

@@ -6,14 +6,15 @@ use native.Mathlib.Omega.{arith}
 use lib.ListN.{length, take}
 use lib.Seq.{take-take}
 use Rattle.model.specs.Limits.{maxFileBytes}
-use Rattle.listing.specs.Text.{listing}
-use Rattle.listing.proofs.Start.{begin-alike}
+use Rattle.printed.specs.Text.{listing}
+use Rattle.printed.proofs.Start.{begin-alike}
 use Rattle.plan.specs.Read.{BeginsWith, ReadWithin}
 use Rattle.plan.specs.declared.Input as declared
 use Rattle.plan.specs.declared.Input.the-variants.{Bytes}
 
 -- with room for one byte more than a file may have, what was read has the file's listing
-pub listing-of-read : (s list : List ℕ) (n : ℕ) → maxFileBytes < length list → BeginsWith s list n → listing (take n list) ≡ listing s
+pub listing-of-read : (s list : List ℕ) (n : ℕ) → maxFileBytes < length list → BeginsWith s list n →
+    listing (take n list) ≡ listing s
 listing-of-read s list n l b =
     let m : maxFileBytes + 1 ≤ length list = omega arith in
     begin-alike (take n list) s (sym (ap (take (maxFileBytes + 1)) b) ∙ take-take (maxFileBytes + 1) (length list) s m)

@@ -1,15 +1,16 @@
-// Prints the plan of the request in a word file: the file on standard input, the listing on standard output. A read or a write that fails
-// is told on standard error with the system's reason; after a failed read nothing goes to standard output.
+// Prints the plan of the request in a word file: the file on standard input, the listing on standard output. A read
+// or a write that fails is told on standard error with the system's reason; after a failed read nothing goes to
+// standard output.
 ghost use mathlib.Core.Path.{_≡_};
 ghost use mathlib.Core.List.{List};
 ghost use Prim.Native.Nat.{ℕ, _-_, _≤_};
 ghost use lib.ListN.{length, take};
-ghost use Rattle.listing.specs.Text.{listing};
+ghost use Rattle.printed.specs.Text.{listing};
 ghost use Rattle.plan.specs.Read.{BeginsWith, ReadWithin};
 use libc::STDIN_FILENO;
 use libc::STDOUT_FILENO;
-use listing::LISTING_BYTES;
 use model::limits::MAX_FILE_BYTES;
+use printed::LISTING_BYTES;
 
 // One byte more than a file may have is enough to refuse it, so no more is read.
 const INPUT_BYTES: usize = MAX_FILE_BYTES + 1;

@@ -1,17 +1,16 @@
 -- What each entry's promise follows from: the refusal that was found, or the plan and the capacity that were computed.
 use mathlib.Core.Path.{_≡_, refl, sym, subst, ap, _∙_}
-use mathlib.Core.Bool.{Bool, true, false, false≢true}
-use mathlib.Core.List.{List, [], _∷_}
-use Prim.Native.Nat.{ℕ, _+_, _*_, _≤_, _<_, max}
+use mathlib.Core.Bool.{true, false, false≢true}
+use mathlib.Core.List.{List}
+use Prim.Native.Nat.{ℕ, _+_, _*_, _≤_, max}
 use native.Mathlib.Nat.{mul-le-mul-left}
 use native.Mathlib.Omega.{arith}
 use lib.ListN.{length, getD}
 use Rattle.model.specs.declared.Refusal.{Refusal}
 use Rattle.model.specs.Choice.{pick}
 use Rattle.model.specs.Limits.{maxFrames, maxHarvest}
-use Rattle.model.specs.Request.{Request, request, total, mostEnergy}
-use Rattle.model.specs.Refusals.{isNone, planRefusal, neededRefusal, Outcome, gives, refuses, outcome}
-use Rattle.model.specs.Charge.{feasible}
+use Rattle.model.specs.Request.{Request, total, withCapacity}
+use Rattle.model.specs.Refusals.{isNone, planRefusal, neededRefusal, gives, refuses, outcome}
 use Rattle.model.specs.Reward.{IsPlan, IsNeeded}
 use Rattle.model.specs.Frames.{plan, peak}
 use Rattle.model.specs.Plan.{framesOf, planOf, openPlan, neededOf}
@@ -23,7 +22,8 @@ use Rattle.request.proofs.Harvest.{total-small}
 use Rattle.request.proofs.Within.{PlanWithin, plan-within, NeededWithin, needed-within}
 use Rattle.planner.specs.declared.plan.PlanAnswer.the-variants as plan-answer
 use Rattle.planner.specs.declared.needed.NeededAnswer.the-variants as needed-answer
-use Rattle.planner.specs.Says.{PlanSays, NeededSays}
+use Rattle.planner.specs.declared.needed.NeededAnswer.{NeededAnswer}
+use Rattle.planner.specs.Says.{PlanSays, neededSaid, NeededSays}
 
 -- an outcome by its refusal
 refused : {A : Type 0} (f : Refusal) (v : A) → isNone f ≡ false → refuses f ≡ outcome f v
@@ -38,18 +38,16 @@ accepted-plan q n h =
     let w = plan-within q n h in
     plan-is q (w .figures .start-fits) (w .figures .end-fits) (w .reach)
 
--- the refusal that was found is none, so the request is within all limits
-pub plan-accepted : (q : Request) (n : ℕ) (f : Refusal) → f ≡ planRefusal q n → isNone f ≡ true → PlanWithin q n
-plan-accepted q n f p h = plan-within q n (subst (λ (g : Refusal). isNone g ≡ true) p h)
-
-total-fits : (hs : List ℕ) → ((i : ℕ) → getD hs i 0 ≤ maxHarvest) → length hs ≤ maxFrames → total hs ≤ maxHarvest * maxFrames
+total-fits : (hs : List ℕ) → ((i : ℕ) → getD hs i 0 ≤ maxHarvest) → length hs ≤ maxFrames →
+    total hs ≤ maxHarvest * maxFrames
 total-fits hs h k = omega (arith, total-small maxHarvest hs h, mul-le-mul-left maxHarvest k)
 
 -- and the planning core can plan it
-pub plan-ready : (c s e n t : ℕ) (hs : List ℕ) → PlanWithin (request c s e hs) n → t ≡ total hs → Ready c s e (s + t) hs
-plan-ready c s e n t hs w p =
+pub plan-ready : (q : Request) (n t : ℕ) → PlanWithin q n → t ≡ total (q .harvest) →
+    Ready (q .figures .capacity) (q .figures .start) (q .figures .end) (q .figures .start + t) (q .harvest)
+plan-ready q n t w p =
     let g = w .figures in
-    let b = total-fits hs (g .harvest-fits) (w .frames .few) in
+    let b = total-fits (q .harvest) (g .harvest-fits) (w .frames .few) in
     record {
       capacity-fits = omega (arith, g .capacity-small);
       start-fits = omega (arith, g .capacity-small, g .start-fits);
@@ -60,14 +58,16 @@ plan-ready c s e n t hs w p =
     }
 
 -- what it writes is the plan of the request
-pub plan-found : (c s e t : ℕ) (hs bs : List ℕ) → t ≡ total hs → bs ≡ plan e s (framesOf c (s + t) hs) → bs ≡ planOf (request c s e hs)
+pub plan-found : (q : Request) (t : ℕ) (bs : List ℕ) → t ≡ total (q .harvest) →
+    bs ≡ plan (q .figures .end) (q .figures .start)
+    (framesOf (q .figures .capacity) (q .figures .start + t) (q .harvest)) →
+    bs ≡ planOf q
 unfolding planOf
-plan-found c s e t hs bs p q = rw p at q
+plan-found q t bs p e = rw p at e
 
-pub plan-refused : (c s e : ℕ) (hs bs : List ℕ) (f : Refusal) → f ≡ planRefusal (request c s e hs) (length bs) → isNone f ≡ false →
-    PlanSays c s e hs bs bs (plan-answer.Refused f)
-plan-refused c s e hs bs f p h =
-    let q = request c s e hs in
+pub plan-refused : (q : Request) (bs : List ℕ) (f : Refusal) → f ≡ planRefusal q (length bs) → isNone f ≡ false →
+    PlanSays q bs bs (plan-answer.Refused f)
+plan-refused q bs f p h =
     record {
       answer = subst (λ (g : Refusal). refuses f ≡ outcome g tt) p (refused f tt h);
       budgets = subst (λ (g : Refusal). bs ≡ pick (isNone g) (planOf q) bs) p (rw h refl);
@@ -75,10 +75,9 @@ plan-refused c s e hs bs f p h =
       no-plan = λ k. out-of-reach q (plan-nine q (length bs) k);
     }
 
-pub plan-given : (c s e : ℕ) (hs bs bs′ : List ℕ) (f : Refusal) → f ≡ planRefusal (request c s e hs) (length bs) → isNone f ≡ true →
-    bs′ ≡ planOf (request c s e hs) → PlanSays c s e hs bs bs′ plan-answer.Planned
-plan-given c s e hs bs bs′ f p h b =
-    let q = request c s e hs in
+pub plan-given : (q : Request) (bs bs′ : List ℕ) (f : Refusal) → f ≡ planRefusal q (length bs) → isNone f ≡ true →
+    bs′ ≡ planOf q → PlanSays q bs bs′ plan-answer.Planned
+plan-given q bs bs′ f p h b =
     record {
       answer = subst (λ (g : Refusal). gives tt ≡ outcome g tt) p (given f tt h);
       budgets = b ∙ subst (λ (g : Refusal). planOf q ≡ pick (isNone g) (planOf q) bs) p (rw h refl);
@@ -86,12 +85,12 @@ plan-given c s e hs bs bs′ f p h b =
       no-plan = λ k. out-of-reach q (plan-nine q (length bs) k);
     }
 
-pub needed-accepted : (q : Request) (f : Refusal) → f ≡ neededRefusal q → isNone f ≡ true → NeededWithin q
-needed-accepted q f p h = needed-within q (subst (λ (g : Refusal). isNone g ≡ true) p h)
-
-pub needed-ready : (s e t : ℕ) (hs : List ℕ) → NeededWithin (request 0 s e hs) → t ≡ total hs → Ready (s + (e + t)) s e (s + t) hs
-needed-ready s e t hs w p =
-    let b = total-fits hs (w .harvest-fits) (w .frames .few) in
+-- a request whose needed capacity is not refused can be planned without limit
+pub needed-ready : (q : Request) (t : ℕ) → NeededWithin q → t ≡ total (q .harvest) →
+    Ready (q .figures .start + (q .figures .end + t)) (q .figures .start) (q .figures .end) (q .figures .start + t)
+    (q .harvest)
+needed-ready q t w p =
+    let b = total-fits (q .harvest) (w .harvest-fits) (w .frames .few) in
     record {
       capacity-fits = omega (arith, w .start-small, w .end-small);
       start-fits = omega (arith, w .start-small);
@@ -102,36 +101,37 @@ needed-ready s e t hs w p =
     }
 
 -- what the plan without limit requires, with start and end, is the needed capacity
-pub needed-found : (s e t p : ℕ) (hs : List ℕ) → t ≡ total hs →
-    p ≡ peak e (framesOf (s + (e + t)) (s + t) hs) (plan e s (framesOf (s + (e + t)) (s + t) hs)) →
-    max s (max e p) ≡ neededOf (request 0 s e hs)
+pub needed-found : (q : Request) (t p : ℕ) → t ≡ total (q .harvest) →
+    let s = q .figures .start in
+    let e = q .figures .end in
+    let fs = framesOf (s + (e + t)) (s + t) (q .harvest) in
+    p ≡ peak e fs (plan e s fs) → max s (max e p) ≡ neededOf q
 unfolding neededOf openPlan
-needed-found s e t p hs q h = ap (λ (n : ℕ). max s (max e n)) (rw q at h)
+needed-found q t p e h = ap (λ (n : ℕ). max (q .figures .start) (max (q .figures .end) n)) (rw e at h)
 
 -- of a request that is not refused, the capacity is the needed one
 accepted-needed : (q : Request) → isNone (neededRefusal q) ≡ true → IsNeeded q (neededOf q)
 accepted-needed q h = needed-is q (needed-within q h .reach)
 
-no-capacity : (s e : ℕ) (hs : List ℕ) → neededRefusal (request 0 s e hs) .number ≡ 9 → (c : ℕ) (cs : List ℕ) →
-    feasible (request c s e hs) cs ≡ false
-no-capacity s e hs k c = out-of-reach (request c s e hs) (needed-nine (request 0 s e hs) k)
-
-pub needed-refused : (s e : ℕ) (hs : List ℕ) (f : Refusal) → f ≡ neededRefusal (request 0 s e hs) → isNone f ≡ false →
-    NeededSays s e hs (needed-answer.Refused f)
-needed-refused s e hs f p h =
-    let q = request 0 s e hs in
+-- beside its answer, what the promise says of every request
+needed-says : (q : Request) (r : NeededAnswer) → neededSaid r ≡ outcome (neededRefusal q) (neededOf q) → NeededSays q r
+unfolding neededOf openPlan
+needed-says q r a =
     record {
-      answer = subst (λ (g : Refusal). refuses f ≡ outcome g (neededOf q)) p (refused f (neededOf q) h);
+      answer = a;
       needed = accepted-needed q;
-      no-plan = no-capacity s e hs;
+      no-plan = λ k c. out-of-reach (withCapacity q c) (needed-nine q k);
+      any-capacity = λ c. (refl, refl);
     }
 
-pub needed-given : (s e : ℕ) (hs : List ℕ) (c : ℕ) (f : Refusal) → f ≡ neededRefusal (request 0 s e hs) → isNone f ≡ true →
-    c ≡ neededOf (request 0 s e hs) → NeededSays s e hs (needed-answer.Capacity c)
-needed-given s e hs c f p h b =
-    let q = request 0 s e hs in
-    record {
-      answer = ap gives b ∙ subst (λ (g : Refusal). gives (neededOf q) ≡ outcome g (neededOf q)) p (given f (neededOf q) h);
-      needed = accepted-needed q;
-      no-plan = no-capacity s e hs;
-    }
+pub needed-refused : (q : Request) (f : Refusal) → f ≡ neededRefusal q → isNone f ≡ false →
+    NeededSays q (needed-answer.Refused f)
+needed-refused q f p h =
+    needed-says q (needed-answer.Refused f)
+    (subst (λ (g : Refusal). refuses f ≡ outcome g (neededOf q)) p (refused f (neededOf q) h))
+
+pub needed-given : (q : Request) (c : ℕ) (f : Refusal) → f ≡ neededRefusal q → isNone f ≡ true → c ≡ neededOf q →
+    NeededSays q (needed-answer.Capacity c)
+needed-given q c f p h b =
+    needed-says q (needed-answer.Capacity c)
+    (ap gives b ∙ subst (λ (g : Refusal). gives (neededOf q) ≡ outcome g (neededOf q)) p (given f (neededOf q) h))

@@ -1,6 +1,14 @@
 // The plan of a request.
+ghost use mathlib.Core.Path.{_≡_};
+ghost use mathlib.Core.Bool.{true};
+ghost use lib.ListN.{length};
+ghost use Rattle.model.specs.Request.{request};
+ghost use Rattle.model.specs.Refusals.{isNone, planRefusal};
+ghost use Rattle.model.specs.Plan.{planOf};
 ghost use Rattle.planner.specs.Says.{PlanSays};
 use leveller::plan_into;
+use model::Figures;
+use model::Refusal;
 use request::is_none;
 use request::plan_refusal;
 use request::sum;
@@ -8,25 +16,35 @@ use request::sum;
 // The budgets are the plan, or the request is refused and the budgets keep their values.
 pub enum PlanAnswer {
     Planned,
-    Refused(model::Refusal),
+    Refused(Refusal),
 }
 
-// Refuses with 1, 2, 7, 3, 4, 5, 6 or 9, in this order, or writes the plan.
-pub fn plan(capacity: u32, start: u32, end: u32, harvest: &[u32], budgets: &mut [u32]) -> PlanAnswer
-    ensures { λ r. ⌜ PlanSays capacity start end (now (harvest .entry)) (now (budgets .entry)) (now (budgets .exit)) r ⌝ }
+// Writes the plan of a request that is not refused.
+pub fn write_plan(figures: Figures, harvest: &[u32], budgets: &mut [u32])
+    requires { ⌜ isNone (planRefusal (request figures (now harvest)) (length (now budgets))) ≡ true ⌝ }
+    ensures { λ _. ⌜ now (budgets .exit) ≡ planOf (request figures (now (harvest .entry))) ⌝ }
 {
-    let refusal = plan_refusal(capacity, start, end, harvest, budgets.len());
-    if !is_none(refusal) {
-        return PlanAnswer::Refused(refusal);
-    }
-    let energy = start as u64 + sum(harvest);
+    let start = figures.start as u64;
+    let energy = start + sum(harvest);
     plan_into(
-        capacity as u64,
-        start as u64,
-        end as u64,
+        figures.capacity as u64,
+        start,
+        figures.end as u64,
         energy,
         harvest,
         budgets,
     );
+}
+
+// Refuses the request, or writes its plan.
+pub fn plan(figures: Figures, harvest: &[u32], budgets: &mut [u32]) -> PlanAnswer
+    ensures { λ r. ⌜ PlanSays (request figures (now (harvest .entry))) (now (budgets .entry))
+        (now (budgets .exit)) r ⌝ }
+{
+    let refusal = plan_refusal(figures, harvest, budgets.len());
+    if !is_none(refusal) {
+        return PlanAnswer::Refused(refusal);
+    }
+    write_plan(figures, harvest, budgets);
     PlanAnswer::Planned
 }

@@ -12,16 +12,20 @@ use borrow.Author.Tests.{lt-ltb, le-ltb, ltb-false}
 use Rattle.model.specs.declared.Refusal.{Refusal}
 use Rattle.model.specs.Limits.{maxHarvest}
 use Rattle.model.specs.Choice.{pick}
-use Rattle.model.specs.Request.{Request, total, withCapacity}
+use Rattle.model.proofs.Choice.{pick-by}
+use Rattle.model.specs.Request.{Request, total, mostEnergy}
 use Rattle.model.specs.Refusals.{refusal, none, isNone, harvestOverLimit, outOfReach}
 
 -- the first frame decides by its test
 by-test : (k h : ℕ) (hs : List ℕ) (t : Bool) → ltb maxHarvest h ≡ t
-    → harvestOverLimit k (h ∷ hs) ≡ elim t as (λ _. Refusal) [ true ↦ refusal 6 k | false ↦ harvestOverLimit (suc k) hs ]
-by-test k h hs t e = ap (λ (u : Bool). elim u as (λ _. Refusal) [ true ↦ refusal 6 k | false ↦ harvestOverLimit (suc k) hs ]) e
+    → harvestOverLimit k
+    (h ∷ hs) ≡ elim t as (λ _. Refusal) [ true ↦ refusal 6 k | false ↦ harvestOverLimit (suc k) hs ]
+by-test k h hs t e =
+    ap (λ (u : Bool). elim u as (λ _. Refusal) [ true ↦ refusal 6 k | false ↦ harvestOverLimit (suc k) hs ]) e
 
 -- a harvest over the limit is the one refused
-pub over-here : (k i : ℕ) (hs : List ℕ) → i < length hs → maxHarvest < getD hs i 0 → harvestOverLimit k (drop i hs) ≡ refusal 6 k
+pub over-here : (k i : ℕ) (hs : List ℕ) → i < length hs → maxHarvest < getD hs i 0 →
+    harvestOverLimit k (drop i hs) ≡ refusal 6 k
 over-here k i hs l b =
     ap (harvestOverLimit k) (drop-cons hs i 0 l)
     ∙ by-test k (getD hs i 0) (drop (suc i) hs) true (lt-ltb maxHarvest (getD hs i 0) b)
@@ -78,23 +82,25 @@ pub total-over : (i : ℕ) (hs : List ℕ) → length hs ≤ i → total (drop i
 total-over i hs l = ap total (drop-of-length-le hs {i = i} l)
 
 -- where what is summed so far reaches the end charge, refusal 9 does not hold
-pub reached : (c : ℕ) (r : Request) (x rest : ℕ) → x + rest ≡ r .start + total (r .harvest) → r .end ≤ x → none ≡ outOfReach (withCapacity r c)
-reached c r x rest e l = sym (ap (λ (t : Bool). pick t (refusal 9 (r .end - (r .start + total (r .harvest)))) none)
-    (le-ltb (r .start + total (r .harvest)) (r .end) (omega arith)))
+pub reached : (r : Request) (x rest : ℕ) → x + rest ≡ mostEnergy r → r .figures .end ≤ x → none ≡ outOfReach r
+reached r x rest e l =
+    sym (pick-by (ltb (mostEnergy r) (r .figures .end)) false (refusal 9 (r .figures .end - mostEnergy r)) none
+    (le-ltb (mostEnergy r) (r .figures .end) (omega arith)))
 
 -- where the whole sum is below the end charge, refusal 9 holds
-pub missed : (c : ℕ) (r : Request) (x : ℕ) → x ≡ r .start + total (r .harvest) → x < r .end → refusal 9 (r .end - x) ≡ outOfReach (withCapacity r c)
-missed c r x e l =
-    ap (λ (y : ℕ). refusal 9 (r .end - y)) e
-    ∙ sym (ap (λ (t : Bool). pick t (refusal 9 (r .end - (r .start + total (r .harvest)))) none)
-    (lt-ltb (r .start + total (r .harvest)) (r .end) (omega arith)))
+pub missed : (r : Request) (x : ℕ) → x ≡ mostEnergy r → x < r .figures .end →
+    refusal 9 (r .figures .end - x) ≡ outOfReach r
+missed r x e l =
+    ap (λ (y : ℕ). refusal 9 (r .figures .end - y)) e
+    ∙ sym (pick-by (ltb (mostEnergy r) (r .figures .end)) true (refusal 9 (r .figures .end - mostEnergy r)) none
+    (lt-ltb (mostEnergy r) (r .figures .end) (omega arith)))
 
 -- no refusal 9 has P 0
 pub reach-none : (r : Request) → isNone (outOfReach r) ≡ true → outOfReach r ≡ none
-reach-none r e = go (ltb (r .start + total (r .harvest)) (r .end)) e
+reach-none r e = go (ltb (mostEnergy r) (r .figures .end)) e
   where
     p : ℕ
-    p = r .end - (r .start + total (r .harvest))
+    p = r .figures .end - mostEnergy r
 
     go : (t : Bool) → isNone (pick t (refusal 9 p) none) ≡ true → pick t (refusal 9 p) none ≡ none
     go true q = absurd (false≢true q)

@@ -1,4 +1,3 @@
 -- Laws of refusals, for the code here and for the entries that ask it.
-pub mod Order
 pub mod Harvest
 pub mod Within

@@ -9,10 +9,10 @@ use lib.ListN.{getD}
 use borrow.Author.Tests.{ltb-false, eqb-true, eqb-false, not-false}
 use Rattle.model.specs.Choice.{pick}
 use Rattle.model.specs.Limits.{maxFrames, maxHarvest, maxCapacity}
-use Rattle.model.specs.Request.{Request, frameCount, total}
+use Rattle.model.specs.Request.{Request, frameCount, mostEnergy}
 use Rattle.model.specs.Refusals as R
-use Rattle.model.specs.Refusals.{isNone, refuseIf, firstOf}
-use Rattle.request.proofs.Order.{firstOf-all, firstOf-both}
+use Rattle.model.specs.Refusals.{isNone, refuseIf, AllNone}
+use Rattle.model.proofs.First.{first-none, both-none}
 use Rattle.request.proofs.Harvest.{harvest-small}
 
 -- where a refusal made by a test is none, the test failed
@@ -25,12 +25,10 @@ pub record FramesWithin (k : ℕ) : Type 0 where
   pub some : 1 ≤ k
   pub few : k ≤ maxFrames
 
-pub frames-within : (k : ℕ) → isNone (firstOf (R.framesRefusals k)) ≡ true → FramesWithin k
-frames-within k e =
-    let p = firstOf-all (R.noFrames k) (R.tooManyFrames k ∷ []) e in
-    let q = firstOf-all (R.tooManyFrames k) [] (p .1) in
-    let n : k ≡ 0 → ⊥ = eqb-false k 0 (test-failed (eqb k 0) 0 (p .0)) in
-    record { some = omega arith; few = ltb-false maxFrames k (test-failed (ltb maxFrames k) 1 (q .0)) }
+pub frames-within : (k : ℕ) → AllNone (R.framesRefusals k) → FramesWithin k
+frames-within k a =
+    let n : k ≡ 0 → ⊥ = eqb-false k 0 (test-failed (eqb k 0) 0 (a .0)) in
+    record { some = omega arith; few = ltb-false maxFrames k (test-failed (ltb maxFrames k) 1 (a .1 .0)) }
 
 -- not refusal 7
 pub length-within : (k n : ℕ) → isNone (R.wrongLength k n) ≡ true → n ≡ k
@@ -42,29 +40,26 @@ capacity-within c e = ltb-false maxCapacity c (test-failed (ltb maxCapacity c) 2
 
 -- none of refusals 3, 4, 5 and 6
 pub record FiguresWithin (r : Request) : Type 0 where
-  pub capacity-small : r .capacity ≤ maxCapacity
-  pub start-fits : r .start ≤ r .capacity
-  pub end-fits : r .end ≤ r .capacity
+  pub capacity-small : r .figures .capacity ≤ maxCapacity
+  pub start-fits : r .figures .start ≤ r .figures .capacity
+  pub end-fits : r .figures .end ≤ r .figures .capacity
   pub harvest-fits : (i : ℕ) → getD (r .harvest) i 0 ≤ maxHarvest
 
-pub figures-within : (r : Request) → isNone (firstOf (R.figureRefusals r)) ≡ true → FiguresWithin r
-figures-within r e =
-    let p = firstOf-all (R.overCapacityLimit (r .capacity)) (R.startAboveCapacity r ∷ R.endAboveCapacity r ∷ R.harvestOverLimit 1 (r .harvest) ∷ []) e in
-    let q = firstOf-all (R.startAboveCapacity r) (R.endAboveCapacity r ∷ R.harvestOverLimit 1 (r .harvest) ∷ []) (p .1) in
-    let s = firstOf-all (R.endAboveCapacity r) (R.harvestOverLimit 1 (r .harvest) ∷ []) (q .1) in
-    let t = firstOf-all (R.harvestOverLimit 1 (r .harvest)) [] (s .1) in
+pub figures-within : (r : Request) → AllNone (R.figureRefusals r) → FiguresWithin r
+figures-within r a =
+    let f = r .figures in
     record {
-      capacity-small = capacity-within (r .capacity) (p .0);
-      start-fits = ltb-false (r .capacity) (r .start) (test-failed (ltb (r .capacity) (r .start)) 3 (q .0));
-      end-fits = ltb-false (r .capacity) (r .end) (test-failed (ltb (r .capacity) (r .end)) 4 (s .0));
-      harvest-fits = harvest-small 1 (r .harvest) (t .0);
+      capacity-small = capacity-within (f .capacity) (a .0);
+      start-fits = ltb-false (f .capacity) (f .start) (test-failed (ltb (f .capacity) (f .start)) 3 (a .1 .0));
+      end-fits = ltb-false (f .capacity) (f .end) (test-failed (ltb (f .capacity) (f .end)) 4 (a .1 .1 .0));
+      harvest-fits = harvest-small 1 (r .harvest) (a .1 .1 .1 .0);
     }
 
 -- not refusal 9
-pub reach-within : (r : Request) → isNone (R.outOfReach r) ≡ true → r .end ≤ r .start + total (r .harvest)
-reach-within r e = ltb-false (r .start + total (r .harvest)) (r .end) (go (ltb (r .start + total (r .harvest)) (r .end)) e)
+pub reach-within : (r : Request) → isNone (R.outOfReach r) ≡ true → r .figures .end ≤ mostEnergy r
+reach-within r e = ltb-false (mostEnergy r) (r .figures .end) (go (ltb (mostEnergy r) (r .figures .end)) e)
   where
-    go : (t : Bool) → isNone (pick t (R.refusal 9 (r .end - (r .start + total (r .harvest)))) R.none) ≡ true → t ≡ false
+    go : (t : Bool) → isNone (pick t (R.refusal 9 (r .figures .end - mostEnergy r)) R.none) ≡ true → t ≡ false
     go true q = absurd (false≢true q)
     go false q = refl
 
@@ -78,14 +73,13 @@ pub record TraceWithin (r : Request) (n m : ℕ) : Type 0 where
 pub trace-within : (r : Request) (n m : ℕ) → isNone (R.traceRefusal r n m) ≡ true → TraceWithin r n m
 trace-within r n m e =
     let k = frameCount r in
-    let p = firstOf-both (R.framesRefusals k) (R.wrongLength k n ∷ (R.wrongLength k m ∷ R.figureRefusals r)) e in
-    let q = firstOf-all (R.wrongLength k n) (R.wrongLength k m ∷ R.figureRefusals r) (p .1) in
-    let s = firstOf-all (R.wrongLength k m) (R.figureRefusals r) (q .1) in
+    let a = both-none (R.framesRefusals k) (R.wrongLength k n ∷ (R.wrongLength k m ∷ R.figureRefusals r))
+    (first-none (R.traceRefusals r n m) e) in
     record {
-      frames = frames-within k (p .0);
-      budgets = length-within k n (q .0);
-      charges = length-within k m (s .0);
-      figures = figures-within r (s .1);
+      frames = frames-within k (a .0);
+      budgets = length-within k n (a .1 .0);
+      charges = length-within k m (a .1 .1 .0);
+      figures = figures-within r (a .1 .1 .1);
     }
 
 -- planning is not refused
@@ -93,60 +87,56 @@ pub record PlanWithin (r : Request) (n : ℕ) : Type 0 where
   pub frames : FramesWithin (frameCount r)
   pub budgets : n ≡ frameCount r
   pub figures : FiguresWithin r
-  pub reach : r .end ≤ r .start + total (r .harvest)
+  pub reach : r .figures .end ≤ mostEnergy r
 
 pub plan-within : (r : Request) (n : ℕ) → isNone (R.planRefusal r n) ≡ true → PlanWithin r n
 plan-within r n e =
     let k = frameCount r in
     let last = R.outOfReach r ∷ [] in
-    let p = firstOf-both (R.framesRefusals k) (R.wrongLength k n ∷ (R.figureRefusals r ++ last)) e in
-    let q = firstOf-all (R.wrongLength k n) (R.figureRefusals r ++ last) (p .1) in
-    let s = firstOf-both (R.figureRefusals r) last (q .1) in
+    let a = both-none (R.framesRefusals k) (R.wrongLength k n ∷ (R.figureRefusals r ++ last))
+    (first-none (R.planRefusals r n) e) in
+    let b = both-none (R.figureRefusals r) last (a .1 .1) in
     record {
-      frames = frames-within k (p .0);
-      budgets = length-within k n (q .0);
-      figures = figures-within r (s .0);
-      reach = reach-within r (firstOf-all (R.outOfReach r) [] (s .1) .0);
+      frames = frames-within k (a .0);
+      budgets = length-within k n (a .1 .0);
+      figures = figures-within r (b .0);
+      reach = reach-within r (b .1 .0);
     }
 
 -- starting a shift is not refused
 pub record StartWithin (r : Request) : Type 0 where
   pub frames : FramesWithin (frameCount r)
   pub figures : FiguresWithin r
-  pub reach : r .end ≤ r .start + total (r .harvest)
+  pub reach : r .figures .end ≤ mostEnergy r
 
 pub start-within : (r : Request) → isNone (R.startRefusal r) ≡ true → StartWithin r
 start-within r e =
     let last = R.outOfReach r ∷ [] in
-    let p = firstOf-both (R.framesRefusals (frameCount r)) (R.figureRefusals r ++ last) e in
-    let s = firstOf-both (R.figureRefusals r) last (p .1) in
+    let a = both-none (R.framesRefusals (frameCount r)) (R.figureRefusals r ++ last)
+    (first-none (R.startRefusals r) e) in
+    let b = both-none (R.figureRefusals r) last (a .1) in
     record {
-      frames = frames-within (frameCount r) (p .0);
-      figures = figures-within r (s .0);
-      reach = reach-within r (firstOf-all (R.outOfReach r) [] (s .1) .0);
+      frames = frames-within (frameCount r) (a .0);
+      figures = figures-within r (b .0);
+      reach = reach-within r (b .1 .0);
     }
 
 -- the needed capacity is not refused
 pub record NeededWithin (r : Request) : Type 0 where
   pub frames : FramesWithin (frameCount r)
-  pub start-small : r .start ≤ maxCapacity
-  pub end-small : r .end ≤ maxCapacity
+  pub start-small : r .figures .start ≤ maxCapacity
+  pub end-small : r .figures .end ≤ maxCapacity
   pub harvest-fits : (i : ℕ) → getD (r .harvest) i 0 ≤ maxHarvest
-  pub reach : r .end ≤ r .start + total (r .harvest)
+  pub reach : r .figures .end ≤ mostEnergy r
 
 pub needed-within : (r : Request) → isNone (R.neededRefusal r) ≡ true → NeededWithin r
 needed-within r e =
-    let three = R.overCapacityLimit in
-    let six = R.harvestOverLimit 1 (r .harvest) in
-    let last = R.outOfReach r ∷ [] in
-    let p = firstOf-both (R.framesRefusals (frameCount r)) (three (r .start) ∷ (three (r .end) ∷ (six ∷ last))) e in
-    let q = firstOf-all (three (r .start)) (three (r .end) ∷ (six ∷ last)) (p .1) in
-    let s = firstOf-all (three (r .end)) (six ∷ last) (q .1) in
-    let t = firstOf-all six last (s .1) in
+    let a = first-none (R.neededRefusals r) e in
+    let b = a .1 .1 in
     record {
-      frames = frames-within (frameCount r) (p .0);
-      start-small = capacity-within (r .start) (q .0);
-      end-small = capacity-within (r .end) (s .0);
-      harvest-fits = harvest-small 1 (r .harvest) (t .0);
-      reach = reach-within r (firstOf-all (R.outOfReach r) [] (t .1) .0);
+      frames = frames-within (frameCount r) (a .0, (a .1 .0, tt));
+      start-small = capacity-within (r .figures .start) (b .0);
+      end-small = capacity-within (r .figures .end) (b .1 .0);
+      harvest-fits = harvest-small 1 (r .harvest) (b .1 .1 .0);
+      reach = reach-within r (b .1 .1 .1 .0);
     }

@@ -1,9 +1,11 @@
 // Refusal 9: whether start plus all harvest reaches the end charge.
 ghost use mathlib.Core.Path.{_≡_};
-ghost use Prim.Native.Nat.{ℕ, _<_, _^_};
+ghost use Prim.Native.Nat.{_<_, _^_};
 ghost use lib.ListN.{length};
 ghost use Rattle.model.specs.Request.{request, total};
 ghost use Rattle.model.specs.Refusals.{outOfReach};
+use model::Figures;
+use model::Refusal;
 
 // The sum of a list.
 pub fn sum(list: &[u32]) -> u64
@@ -21,15 +23,15 @@ pub fn sum(list: &[u32]) -> u64
 }
 
 // Refusal 9, whose P is the amount missing. The sum stops where it reaches the end charge.
-pub fn reach_refusal(start: u32, end: u32, harvest: &[u32]) -> model::Refusal
-    ensures { λ r. ⌜ ((c : ℕ) → r ≡ outOfReach (request c start end (now (harvest .entry)))) ⌝ }
+pub fn reach_refusal(figures: Figures, harvest: &[u32]) -> Refusal
+    ensures { λ r. ⌜ r ≡ outOfReach (request figures (now (harvest .entry))) ⌝ }
 {
-    let goal = end as u64;
-    let mut reach = start as u64;
+    let goal = figures.end as u64;
+    let mut reach = figures.start as u64;
     let mut i: usize = 0;
     loop {
         if reach >= goal {
-            return model::Refusal { number: 0, p: 0 };
+            return Refusal { number: 0, p: 0 };
         }
         if i == harvest.len() {
             break;
@@ -37,7 +39,7 @@ pub fn reach_refusal(start: u32, end: u32, harvest: &[u32]) -> model::Refusal
         reach += harvest[i] as u64;
         i += 1;
     }
-    model::Refusal {
+    Refusal {
         number: 9,
         p: goal - reach,
     }

@@ -1,9 +1,3 @@
--- The laws behind the entries of a shift, and demand 3 over lists of calls.
-pub mod First
+-- The laws behind starting and recording.
 pub mod Record
 pub mod Started
-pub mod Rest
-pub mod Planned
-pub mod Run
-pub mod Runs
-pub mod Impostors

@@ -1,35 +1,146 @@
 -- What refusal 22 lets pass, as facts; the refusals of a recording; and that a recorded shift is a shift.
 use mathlib.Core.Path.{_≡_, refl, sym, ap, _∙_}
-use mathlib.Core.Bool.{Bool, true, false, _&&_, not}
+use mathlib.Core.Bool.{Bool, true, false, _&&_, not, false≢true}
 use mathlib.Core.List.{List, [], _∷_}
-use Prim.Native.Nat.{ℕ, suc, _+_, _-_, _*_, _≤_, _<_}
+use Prim.Native.Nat.{ℕ, suc, _+_, _-_, _*_, _≤_, _<_, _^_}
 use native.Mathlib.Numerals.{add-one}
 use native.Mathlib.Omega.{arith}
-use lib.Dec.{eqb, ltb}
+use lib.Dec.{eqb, ltb, leb, T}
+use lib.IntN.{ℤ, pos, natAbs}
+use lib.Signed.{mag, nonNeg}
+use mir.Syntax.{w32, w64}
+use mir.Val.{Fits, toZ, ofZ}
 use borrow.Author.Tests.{leb-true, eqb-true, eqb-false, ltb-false, not-false, le-leb, eq-eqb, ne-eqb, lt-ltb, le-ltb}
 use Rattle.model.specs.declared.Refusal.{Refusal}
 use Rattle.model.specs.Choice.{pick}
 use Rattle.model.specs.Limits.{maxFrames, maxHarvest, maxCapacity}
-use Rattle.model.specs.Refusals.{refusal, none, isNone, firstOf, harvestOverLimit, gives, refuses}
-use Rattle.model.specs.Charge.{frameEnd}
+use Rattle.model.specs.Refusals.{refusal, none, isNone, firstOf}
+use Rattle.model.specs.Charge.{atHand, frameEnd}
+use Rattle.model.specs.Trace.{tracedEnd}
+use Rattle.model.specs.declared.frame.TracedEnd.{TracedEnd}
+use Rattle.model.proofs.Machine.{widen, back}
+use Rattle.model.proofs.Trace.{traced-within}
 use Rattle.model.proofs.Tests.{both}
-use Rattle.request.proofs.Order.{firstOf-all}
+use Rattle.model.proofs.Choice.{pick-by}
+use Rattle.model.proofs.First.{first-none}
 use Rattle.request.proofs.Harvest.{harvest-small}
+use Rattle.shift.specs.declared.Terms.{Terms}
+use Rattle.shift.specs.declared.Present.{Present}
 use Rattle.shift.specs.declared.Shift.{Shift}
-use Rattle.shift.specs.declared.RecordAnswer.the-variants as recording
-use Rattle.shift.specs.Shift.{isShift, notShift, allRecorded, useTooGreat, recordingRefusals, recordRefusal, recordedBy}
+use Rattle.shift.specs.Shift.{areTerms, isPresent, isShift, notShift, allRecorded, useTooGreat, recordRefusals}
+use Rattle.shift.specs.Shift.{recordRefusal, recordedBy}
 use Rattle.shift.specs.Says.{RecordSays}
-use Rattle.shift.proofs.First as first
 
--- what has to be met by start and harvested when charge, used and lost are taken off one by one
-pub same-test : (a b c d : ℕ) → (a ≡ b → c ≡ d) → (c ≡ d → a ≡ b) → eqb a b ≡ eqb c d
-same-test a b c d f g = go (eqb a b) refl
-  where
-    go : (t : Bool) → eqb a b ≡ t → eqb a b ≡ eqb c d
-    go true e = e ∙ sym (eq-eqb c d (f (eqb-true a b e)))
-    go false e = e ∙ sym (ne-eqb c d (λ (q : c ≡ d). eqb-false a b e (g q)))
+-- a test that would bring a contradiction doesn't hold
+pub refuted : (t : Bool) → (t ≡ true → ⊥) → t ≡ false
+refuted true h = absurd (h refl)
+refuted false h = refl
 
--- too little for the charge
+-- a refusal that didn't come: its test doesn't hold
+untested : (t : Bool) (g : Refusal) → isNone g ≡ false → isNone (pick t g none) ≡ true → t ≡ false
+untested true g n e = absurd (false≢true (sym n ∙ e))
+untested false g n e = refl
+
+-- a test at the end of a list
+alone : (t : Bool) → t ≡ t && true
+alone true = refl
+alone false = refl
+
+-- two tests, the first of which is known
+pub and-true : (t u : Bool) → t ≡ true → u ≡ t && u
+and-true true u e = refl
+and-true false u e = absurd (false≢true e)
+
+pub and-false : (t u : Bool) → t ≡ false → false ≡ t && u
+and-false true u e = absurd (false≢true (sym e))
+and-false false u e = refl
+
+-- the tests of terms as facts
+pub record TermsHold (k : Terms) : Type 0 where
+  pub some : 1 ≤ k .frames
+  pub few : k .frames ≤ maxFrames
+  pub capacity-low : k .capacity ≤ maxCapacity
+  pub start-low : k .start ≤ k .capacity
+  pub end-low : k .end ≤ k .capacity
+
+pub terms-hold : (k : Terms) → areTerms k ≡ true → TermsHold k
+terms-hold k e =
+    let a = both _ _ e in
+    let b = both _ _ (a .1) in
+    let c = both _ _ (b .1) in
+    let d = both _ _ (c .1) in
+    let f = both _ _ (d .1) in
+    record {
+      some = leb-true _ _ (a .0);
+      few = leb-true _ _ (b .0);
+      capacity-low = leb-true _ _ (c .0);
+      start-low = leb-true _ _ (d .0);
+      end-low = leb-true _ _ (f .0);
+    }
+
+-- terms without one of them
+pub no-terms : (k : Terms) → (TermsHold k → ⊥) → false ≡ areTerms k
+no-terms k h = sym (refuted (areTerms k) (λ (e : areTerms k ≡ true). h (terms-hold k e)))
+
+-- terms with all but the last of them
+pub by-end :
+    (k : Terms) → 1 ≤ k .frames → k .frames ≤ maxFrames → k .capacity ≤ maxCapacity → k .start ≤ k .capacity →
+    leb (k .end) (k .capacity) ≡ areTerms k
+by-end k a b c d = rw (le-leb _ _ a, le-leb _ _ b, le-leb _ _ c, le-leb _ _ d) (alone (leb (k .end) (k .capacity)))
+
+-- terms with all of them
+pub are-terms : (k : Terms) → TermsHold k → areTerms k ≡ true
+are-terms k h = sym (by-end k (h .some) (h .few) (h .capacity-low) (h .start-low)) ∙ le-leb _ _ (h .end-low)
+
+-- the tests of how a shift stands as facts
+pub record PresentHolds (k : Terms) (n : Present) : Type 0 where
+  pub within : n .recorded ≤ k .frames
+  pub charge-low : n .charge ≤ k .capacity
+  pub harvest-low : n .totals .harvested ≤ maxHarvest * n .recorded
+  pub balanced : k .start + n .totals .harvested ≡ n .charge + n .totals .used + n .totals .lost
+
+pub present-holds : (k : Terms) (n : Present) → isPresent k n ≡ true → PresentHolds k n
+present-holds k n e =
+    let a = both _ _ e in
+    let b = both _ _ (a .1) in
+    let c = both _ _ (b .1) in
+    let d = both _ _ (c .1) in
+    record {
+      within = leb-true _ _ (a .0);
+      charge-low = leb-true _ _ (b .0);
+      harvest-low = leb-true _ _ (c .0);
+      balanced = eqb-true _ _ (d .0);
+    }
+
+pub no-present : (k : Terms) (n : Present) → (PresentHolds k n → ⊥) → false ≡ isPresent k n
+no-present k n h = sym (refuted (isPresent k n) (λ (e : isPresent k n ≡ true). h (present-holds k n e)))
+
+pub by-balance :
+    (k : Terms) (n : Present) (t : Bool) → n .recorded ≤ k .frames → n .charge ≤ k .capacity →
+    n .totals .harvested ≤ maxHarvest * n .recorded →
+    t ≡ eqb (k .start + n .totals .harvested) (n .charge + n .totals .used + n .totals .lost) → t ≡ isPresent k n
+by-balance k n t a b c e = rw (le-leb _ _ a, le-leb _ _ b, le-leb _ _ c, sym e) (alone t)
+
+pub is-present : (k : Terms) (n : Present) → PresentHolds k n → isPresent k n ≡ true
+is-present k n h =
+    sym (by-balance k n true (h .within) (h .charge-low) (h .harvest-low) (sym (eq-eqb _ _ (h .balanced))))
+
+-- a record that passes 22
+pub record Sound (s : Shift) : Type 0 where
+  pub terms : TermsHold (s .terms)
+  pub now : PresentHolds (s .terms) (s .now)
+
+pub sound-of : (s : Shift) → isShift s ≡ true → Sound s
+sound-of s e =
+    let a = both (areTerms (s .terms)) (isPresent (s .terms) (s .now)) e in
+    record { terms = terms-hold (s .terms) (a .0); now = present-holds (s .terms) (s .now) (a .1) }
+
+pub is-sound : (s : Shift) → Sound s → isShift s ≡ true
+is-sound s h =
+    sym (and-true (areTerms (s .terms)) (isPresent (s .terms) (s .now)) (are-terms (s .terms) (h .terms)))
+    ∙ is-present (s .terms) (s .now) (h .now)
+
+-- charge, used and lost taken off one by one: too little for the charge
 pub charge-over : (s h x u l : ℕ) → s + h < x → eqb (s + h) (x + u + l) ≡ false
 charge-over s h x u l p = ne-eqb (s + h) (x + u + l) (λ (q : s + h ≡ x + u + l). omega arith)
 
@@ -39,195 +150,137 @@ use-over s h x u l p r = ne-eqb (s + h) (x + u + l) (λ (q : s + h ≡ x + u + l
 
 -- what is left is the loss
 pub loss-left : (s h x u l : ℕ) → x ≤ s + h → u ≤ s + h - x → eqb (s + h - x - u) l ≡ eqb (s + h) (x + u + l)
-loss-left s h x u l p r =
-    same-test (s + h - x - u) l (s + h) (x + u + l)
-    (λ (q : s + h - x - u ≡ l). omega arith)
-    (λ (q : s + h ≡ x + u + l). omega arith)
-
--- refusal 22's list as facts
-pub record Sound (s : Shift) : Type 0 where
-  pub within : s .recorded ≤ s .frames
-  pub some : 1 ≤ s .frames
-  pub few : s .frames ≤ maxFrames
-  pub capacity-low : s .capacity ≤ maxCapacity
-  pub charge-low : s .charge ≤ s .capacity
-  pub start-low : s .start ≤ s .capacity
-  pub end-low : s .end ≤ s .capacity
-  pub harvest-low : s .harvested ≤ maxHarvest * s .recorded
-  pub balanced : s .start + s .harvested ≡ s .charge + s .used + s .lost
-
--- a record that passes 22 has the facts
-pub sound-of : (s : Shift) → isShift s ≡ true → Sound s
-sound-of s e =
-    let a = both _ _ e in
-    let b = both _ _ (a .1) in
-    let c = both _ _ (b .1) in
-    let d = both _ _ (c .1) in
-    let f = both _ _ (d .1) in
-    let g = both _ _ (f .1) in
-    let h = both _ _ (g .1) in
-    let i = both _ _ (h .1) in
-    let j = both _ _ (i .1) in
-    record {
-      within = leb-true _ _ (a .0);
-      some = leb-true _ _ (b .0);
-      few = leb-true _ _ (c .0);
-      capacity-low = leb-true _ _ (d .0);
-      charge-low = leb-true _ _ (f .0);
-      start-low = leb-true _ _ (g .0);
-      end-low = leb-true _ _ (h .0);
-      harvest-low = leb-true _ _ (i .0);
-      balanced = eqb-true _ _ (j .0);
-    }
-
--- a record with all of them but the balance passes 22 if it balances
-pub by-balance :
-    (s : Shift) →
-    s .recorded ≤ s .frames →
-    1 ≤ s .frames →
-    s .frames ≤ maxFrames →
-    s .capacity ≤ maxCapacity →
-    s .charge ≤ s .capacity →
-    s .start ≤ s .capacity →
-    s .end ≤ s .capacity →
-    s .harvested ≤ maxHarvest * s .recorded →
-    eqb (s .start + s .harvested) (s .charge + s .used + s .lost) ≡ isShift s
-by-balance s a b c d e f g h =
-    rw
-    (le-leb _ _ a, le-leb _ _ b, le-leb _ _ c, le-leb _ _ d, le-leb _ _ e, le-leb _ _ f, le-leb _ _ g, le-leb _ _ h)
-    (alone (eqb (s .start + s .harvested) (s .charge + s .used + s .lost)))
+loss-left s h x u l p r = go (eqb (s + h - x - u) l) refl
   where
-    alone : (t : Bool) → t ≡ t && true
-    alone true = refl
-    alone false = refl
-
--- a record with all the facts passes 22
-pub is-sound : (s : Shift) → Sound s → isShift s ≡ true
-is-sound s h =
-    sym
-    (by-balance s
-    (h .within)
-    (h .some)
-    (h .few)
-    (h .capacity-low)
-    (h .charge-low)
-    (h .start-low)
-    (h .end-low)
-    (h .harvest-low))
-    ∙ eq-eqb _ _ (h .balanced)
-
--- a record without one of the facts doesn't
-pub not-sound : (s : Shift) → (Sound s → ⊥) → isShift s ≡ false
-not-sound s h = go (isShift s) refl
-  where
-    go : (t : Bool) → isShift s ≡ t → isShift s ≡ false
-    go true e = absurd (h (sound-of s e))
-    go false e = e
+    go : (t : Bool) → eqb (s + h - x - u) l ≡ t → t ≡ eqb (s + h) (x + u + l)
+    go true e = let d = eqb-true (s + h - x - u) l e in sym (eq-eqb (s + h) (x + u + l) (omega arith))
+    go false e =
+        let d = eqb-false (s + h - x - u) l e in
+        sym (ne-eqb (s + h) (x + u + l) (λ (q : s + h ≡ x + u + l). d (omega arith)))
 
 -- past 22
 pub past-22 : (s : Shift) (fs : List Refusal) → isShift s ≡ true → firstOf (notShift s ∷ fs) ≡ firstOf fs
-past-22 s fs e = first.past (notShift s) fs (ap (λ (u : Bool). pick (not u) (refusal 22 0) none) e)
+past-22 s fs e = ap (λ (t : Bool). firstOf (pick (not t) (refusal 22 0) none ∷ fs)) e
 
 -- no 22 tells a shift
-pub is-shift-of : (s : Shift) → isNone (notShift s) ≡ true → isShift s ≡ true
-is-shift-of s e = not-false (isShift s) (first.untested (not (isShift s)) (refusal 22 0) refl e)
+pub sound-by : (s : Shift) → isNone (notShift s) ≡ true → Sound s
+sound-by s e = sound-of s (not-false (isShift s) (untested (not (isShift s)) (refusal 22 0) refl e))
 
 -- no 20 tells that a frame is left
-pub open-frame : (s : Shift) → isNone (allRecorded (s .frames) (s .recorded)) ≡ true → s .recorded ≡ s .frames → ⊥
-open-frame s e = eqb-false (s .recorded) (s .frames) (first.untested (eqb (s .recorded) (s .frames)) (refusal 20 0) refl e)
+pub open-frame : (k : Terms) (n : Present) → isNone (allRecorded k n) ≡ true → n .recorded ≡ k .frames → ⊥
+open-frame k n e = eqb-false (n .recorded) (k .frames) (untested (eqb (n .recorded) (k .frames)) (refusal 20 0) refl e)
 
--- 21 of a use above what is at hand
-pub use-above : (x h u : ℕ) → x + h < u → useTooGreat x h u ≡ refusal 21 (u - (x + h))
-use-above x h u l = ap (λ (t : Bool). pick t (refusal 21 (u - (x + h))) none) (lt-ltb (x + h) u l)
+-- 21 by what is at hand: of a use above it, of none other
+module _ (k : Terms) (n : Present) (h u : ℕ) where
+  abbrev hand : ℕ
+  hand = atHand (k .capacity) (n .charge) h
 
--- no 21 of any other
-pub use-within : (x h u : ℕ) → u ≤ x + h → useTooGreat x h u ≡ none
-use-within x h u l = ap (λ (t : Bool). pick t (refusal 21 (u - (x + h))) none) (le-ltb (x + h) u l)
+  pub use-above : hand < u → useTooGreat k n h u ≡ refusal 21 (u - hand)
+  use-above l = pick-by (ltb hand u) true (refusal 21 (u - hand)) none (lt-ltb hand u l)
 
--- no 21 tells that the use is within what is at hand
-use-enough : (x h u : ℕ) → isNone (useTooGreat x h u) ≡ true → u ≤ x + h
-use-enough x h u e = ltb-false (x + h) u (first.untested (ltb (x + h) u) (refusal 21 (u - (x + h))) refl e)
+  pub use-within : u ≤ hand → useTooGreat k n h u ≡ none
+  use-within l = pick-by (ltb hand u) false (refusal 21 (u - hand)) none (le-ltb hand u l)
 
--- no 21 has P 0
-pub use-none : (x h u : ℕ) → isNone (useTooGreat x h u) ≡ true → useTooGreat x h u ≡ none
-use-none x h u e = use-within x h u (use-enough x h u e)
+  pub use-enough : isNone (useTooGreat k n h u) ≡ true → u ≤ hand
+  use-enough e = ltb-false hand u (untested (ltb hand u) (refusal 21 (u - hand)) refl e)
+
+  -- no 21 has P 0
+  pub use-none : isNone (useTooGreat k n h u) ≡ true → useTooGreat k n h u ≡ none
+  use-none e = use-within (use-enough e)
 
 -- what a recording that is not refused has
 pub record Passed (s : Shift) (h u : ℕ) : Type 0 where
   pub sound : Sound s
-  pub more : s .recorded < s .frames
+  pub more : s .now .recorded < s .terms .frames
   pub small : h ≤ maxHarvest
-  pub enough : u ≤ s .charge + h
+  pub enough : u ≤ atHand (s .terms .capacity) (s .now .charge) h
 
--- and it has them
 pub passed : (s : Shift) (h u : ℕ) → isNone (recordRefusal s h u) ≡ true → Passed s h u
 passed s h u e =
-    let k = s .frames in
-    let n = s .recorded in
-    let x = s .charge in
-    let six = harvestOverLimit (suc n) (h ∷ []) in
-    let a = firstOf-all (notShift s) (recordingRefusals k n x h u) e in
-    let b = firstOf-all (allRecorded k n) (six ∷ useTooGreat x h u ∷ []) (a .1) in
-    let c = firstOf-all six (useTooGreat x h u ∷ []) (b .1) in
-    let d = firstOf-all (useTooGreat x h u) [] (c .1) in
-    let sound = sound-of s (is-shift-of s (a .0)) in
-    let more = open-frame s (b .0) in
+    let a = first-none (recordRefusals s h u) e in
+    let sound = sound-by s (a .0) in
+    let more = open-frame (s .terms) (s .now) (a .1 .0) in
     record {
       sound = sound;
       more = omega arith;
-      small = harvest-small (suc n) (h ∷ []) (c .0) 0;
-      enough = use-enough x h u (d .0);
+      small = harvest-small (suc (s .now .recorded)) (h ∷ []) (a .1 .1 .0) 0;
+      enough = use-enough (s .terms) (s .now) h u (a .1 .1 .1 .0);
     }
 
 -- a recorded shift is a shift
 pub recorded-sound : (s : Shift) (h u : ℕ) → Passed s h u → Sound (recordedBy s h u)
 recorded-sound s h u p =
     record {
-      within = omega arith;
-      some = omega arith;
-      few = omega arith;
-      capacity-low = omega arith;
-      charge-low = omega arith;
-      start-low = omega arith;
-      end-low = omega arith;
-      harvest-low = omega arith;
-      balanced = omega arith;
+      terms = p .sound .terms;
+      now =
+          record {
+            within = omega arith;
+            charge-low = omega arith;
+            harvest-low = omega arith;
+            balanced = omega arith;
+          };
     }
 
--- recording's promise, refused
-pub record-refused : (s : Shift) (h u : ℕ) (f : Refusal) → f ≡ recordRefusal s h u → isNone f ≡ false → RecordSays s h u (recording.Refused f s)
-record-refused s h u f e n =
-    let no : isNone (recordRefusal s h u) ≡ false = ap isNone (sym e) ∙ n in
+-- recording's promise of any shift that is the one due
+pub record-says :
+    (s : Shift) (h u : ℕ) (f : Refusal) (t : Shift) → f ≡ recordRefusal s h u →
+    t ≡ pick (isNone f) (recordedBy s h u) s →
+    RecordSays s h u (record { refusal = f; shift = t })
+record-says s h u f t e d =
+    let p = d ∙ ap (λ (g : Refusal). pick (isNone g) (recordedBy s h u) s) e in
     record {
-      answer = ap refuses e ∙ sym (first.refused (recordRefusal s h u) (recordedBy s h u) no);
-      shift = sym (first.other (isNone (recordRefusal s h u)) (recordedBy s h u) s no);
-      stays = λ i. i;
+      refusal = e;
+      shift = p;
+      stays = λ i. ap isShift p ∙ stays i (isNone (recordRefusal s h u)) refl;
     }
+  where
+    stays :
+        isShift s ≡ true → (b : Bool) → isNone (recordRefusal s h u) ≡ b → isShift (pick b (recordedBy s h u) s) ≡ true
+    stays i true n = is-sound (recordedBy s h u) (recorded-sound s h u (passed s h u n))
+    stays i false n = i
 
--- recording's promise, recorded
-pub record-done : (s : Shift) (h u : ℕ) (t : Shift) → isNone (recordRefusal s h u) ≡ true → t ≡ recordedBy s h u → RecordSays s h u (recording.Recorded t)
-record-done s h u t ok e =
+-- a charge as the frame rule's code takes it
+pub charge-small : (x : ℕ) → x < 2 ^ 32 → mag (toZ w64 x) < 2 ^ 62
+charge-small x f = rw (widen x f) (omega arith)
+
+-- what that code comes to where the use is at hand: the charge, which is a number of 32 bits, and the loss
+pub record Ended (c x h u : ℕ) (e : TracedEnd) : Type 0 where
+  pub charge-is : natAbs (toZ w64 (ofZ w64 (e .charge))) ≡ frameEnd c x h u .charge
+  pub charge-fits : T (nonNeg (toZ w64 (ofZ w64 (e .charge)))) × Fits w32 (natAbs (toZ w64 (ofZ w64 (e .charge))))
+  pub lost-is : e .lost ≡ frameEnd c x h u .lost
+
+pub ended :
+    (c x h u : ℕ) (e : TracedEnd) → c < 2 ^ 32 → x < 2 ^ 32 → u ≤ atHand c x h → e ≡ tracedEnd c (toZ w64 x) h u →
+    Ended c x h u e
+ended c x h u e fc fx l d =
+    let y = frameEnd c x h u .charge in
+    let p = d ∙ ap (λ (z : ℤ). tracedEnd c z h u) (widen x fx) ∙ traced-within c x h u l in
+    let z : toZ w64 (ofZ w64 (e .charge)) ≡ pos y =
+    ap (λ (r : TracedEnd). toZ w64 (ofZ w64 (r .charge))) p ∙ back (pos y) (omega arith) in
     record {
-      answer = ap gives e ∙ sym (first.given (recordRefusal s h u) (recordedBy s h u) ok);
-      shift = e ∙ sym (first.picked (isNone (recordRefusal s h u)) (recordedBy s h u) s ok);
-      stays = λ i. ap isShift e ∙ is-sound (recordedBy s h u) (recorded-sound s h u (passed s h u ok));
+      charge-is = ap natAbs z;
+      charge-fits = rw z (tt, record { fits = omega arith });
+      lost-is = ap (λ (r : TracedEnd). r .lost) p;
     }
 
 -- the shift that the code makes of the frame rule's two results
 pub recorded-as :
     (s : Shift) (h u x l : ℕ) →
-    x ≡ frameEnd (s .capacity) (s .charge) h u .charge →
-    l ≡ frameEnd (s .capacity) (s .charge) h u .lost →
+    x ≡ frameEnd (s .terms .capacity) (s .now .charge) h u .charge →
+    l ≡ frameEnd (s .terms .capacity) (s .now .charge) h u .lost →
     record {
-      frames = s .frames;
-      recorded = s .recorded + 1;
-      capacity = s .capacity;
-      start = s .start;
-      end = s .end;
-      charge = x;
-      harvested = s .harvested + h;
-      used = s .used + u;
-      lost = s .lost + l;
+      terms = s .terms;
+      now =
+          record {
+            recorded = s .now .recorded + 1;
+            charge = x;
+            totals =
+                record {
+                  harvested = s .now .totals .harvested + h;
+                  used = s .now .totals .used + u;
+                  lost = s .now .totals .lost + l;
+                };
+          };
     }
     ≡ recordedBy s h u
-recorded-as s h u x l p q = cc (add-one (s .recorded))
+recorded-as s h u x l p q = cc (add-one (s .now .recorded))

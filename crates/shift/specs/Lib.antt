@@ -1,6 +1,3 @@
--- The running shift: its record and refusals, what each entry promises, the logbook, and demand 3 over lists of calls.
+-- The running shift: its record and refusals, and what starting and recording promise.
 pub mod Shift
-pub mod Rest
 pub mod Says
-pub mod Logbook
-pub mod Run

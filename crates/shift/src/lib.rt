@@ -1,72 +1,105 @@
-// The running shift: started from a valid, reachable request, recorded frame by frame, and its rest planned anew at any time.
+// The running shift: started from a valid, reachable request, and recorded frame by frame. Its rest is planned in
+// crate rest, which also asks for refusals 22 and 20.
 ghost use mathlib.Core.Path.{_≡_};
 ghost use mathlib.Core.Bool.{true};
-ghost use denote.Ref.{ptr};
 ghost use Rattle.model.specs.Request.{request};
 ghost use Rattle.model.specs.Refusals.{isNone};
-ghost use Rattle.shift.specs.Shift.{recordRefusal, recordedBy};
-ghost use Rattle.shift.specs.Says.{StartSays, RecordSays, RestSays, PartSays};
-use leveller::plan_into;
+ghost use Rattle.shift.specs.Shift.{freshShift, recordRefusal, recordedBy};
+ghost use Rattle.shift.specs.Says.{StartSays, RecordSays};
+use model::Figures;
 use model::Refusal;
+use model::frame::frame_end;
 use request::is_none;
 
-mod clear;
-mod frame;
 mod refusals;
 mod state;
 
-// A shift's record: K, frames recorded, capacity, start, end, present charge, and the totals over the recorded frames.
+pub use refusals::done_refusal;
+pub use refusals::shift_refusal;
+
+// What a shift was started from: the number of frames, capacity, start charge and end charge.
 #[repr(C)]
-pub struct Shift {
+pub struct Terms {
     pub frames: u32,
-    pub recorded: u32,
     pub capacity: u32,
     pub start: u32,
     pub end: u32,
-    pub charge: u32,
+}
+
+// Sums over the recorded frames.
+#[repr(C)]
+pub struct Totals {
     pub harvested: u64,
     pub used: u64,
     pub lost: u64,
 }
 
-// What starting answers.
-pub enum StartAnswer {
-    Started(Shift),
-    Refused(Refusal),
+// How a shift stands: the number of frames recorded, the charge, and the totals.
+#[repr(C)]
+pub struct Present {
+    pub recorded: u32,
+    pub charge: u32,
+    pub totals: Totals,
 }
 
-// What recording answers; the shift comes back in every case.
-pub enum RecordAnswer {
-    Recorded(Shift),
-    Refused(Refusal, Shift),
+// A shift's record.
+#[repr(C)]
+pub struct Shift {
+    pub terms: Terms,
+    pub now: Present,
 }
 
-// What planning the rest answers; short comes with the missing amount.
-pub enum RestAnswer {
-    Planned,
-    Short(u64),
-    Refused(Refusal),
+// What starting and recording answer: the refusal, number 0 if there is none, and the shift.
+#[repr(C)]
+pub struct ShiftAnswer {
+    pub refusal: Refusal,
+    pub shift: Shift,
 }
 
-// Starts a shift from a request.
-pub fn start(capacity: u32, start: u32, end: u32, harvest: &[u32]) -> StartAnswer
-    ensures { λ r. ⌜ StartSays (request capacity start end (now (harvest .entry))) r ⌝ }
+// A shift with nothing recorded yet.
+fn fresh_shift(frames: u32, capacity: u32, start: u32, end: u32) -> Shift
+    ensures { λ r. ⌜ r ≡ freshShift (record { frames = frames; capacity = capacity; start = start; end = end }) ⌝ }
 {
-    let refusal = request::start_refusal(capacity, start, end, harvest);
-    if !is_none(refusal) {
-        return StartAnswer::Refused(refusal);
-    }
-    StartAnswer::Started(Shift {
-        frames: harvest.len() as u32,
-        recorded: 0,
+    let terms = Terms {
+        frames: frames,
         capacity: capacity,
         start: start,
         end: end,
-        charge: start,
+    };
+    let totals = Totals {
         harvested: 0,
         used: 0,
         lost: 0,
-    })
+    };
+    let now = Present {
+        recorded: 0,
+        charge: start,
+        totals: totals,
+    };
+    Shift {
+        terms: terms,
+        now: now,
+    }
+}
+
+// Starts a shift from a request. Beside a refusal the shift is all zeros.
+pub fn start(figures: Figures, harvest: &[u32]) -> ShiftAnswer
+    ensures { λ r. ⌜ StartSays (request figures (now (harvest .entry))) r ⌝ }
+{
+    let refusal = request::start_refusal(figures, harvest);
+    if !is_none(refusal) {
+        let none = fresh_shift(0, 0, 0, 0);
+        return ShiftAnswer {
+            refusal: refusal,
+            shift: none,
+        };
+    }
+    let frames = harvest.len() as u32;
+    let shift = fresh_shift(frames, figures.capacity, figures.start, figures.end);
+    ShiftAnswer {
+        refusal: refusal,
+        shift: shift,
+    }
 }
 
 impl Shift {
@@ -75,72 +108,40 @@ impl Shift {
         requires { ⌜ isNone (recordRefusal self harvest used) ≡ true ⌝ }
         ensures { λ r. ⌜ r ≡ recordedBy self harvest used ⌝ }
     {
-        let end = frame::frame_end(self.capacity, self.charge, harvest, used);
+        let terms = self.terms;
+        let end = frame_end(terms.capacity, self.now.charge as i64, harvest, used);
+        let totals = Totals {
+            harvested: self.now.totals.harvested + harvest as u64,
+            used: self.now.totals.used + used as u64,
+            lost: self.now.totals.lost + end.lost,
+        };
+        let now = Present {
+            recorded: self.now.recorded + 1,
+            charge: end.charge as u32,
+            totals: totals,
+        };
         Shift {
-            frames: self.frames,
-            recorded: self.recorded + 1,
-            capacity: self.capacity,
-            start: self.start,
-            end: self.end,
-            charge: end.charge,
-            harvested: self.harvested + harvest as u64,
-            used: self.used + used as u64,
-            lost: self.lost + end.lost,
+            terms: terms,
+            now: now,
         }
     }
 
-    // Records the next frame's harvest and use: hands the shift back as it stands after it, or with the refusal as it was.
-    pub fn record(self, harvest: u32, used: u32) -> RecordAnswer
+    // Records the next frame's harvest and use: hands the shift back as it stands after it, or with the refusal as it
+    // was.
+    pub fn record(self, harvest: u32, used: u32) -> ShiftAnswer
         ensures { λ r. ⌜ RecordSays self harvest used r ⌝ }
     {
         let refusal = refusals::record_refusal(self, harvest, used);
         if !is_none(refusal) {
-            return RecordAnswer::Refused(refusal, self);
+            return ShiftAnswer {
+                refusal: refusal,
+                shift: self,
+            };
         }
-        RecordAnswer::Recorded(self.recorded_by(harvest, used))
+        let shift = self.recorded_by(harvest, used);
+        ShiftAnswer {
+            refusal: refusal,
+            shift: shift,
+        }
     }
-}
-
-// Plans the rest of a shift by the harvests lent. The unrecorded part of the budgets is lent on, to be filled with the plan, or with
-// zeros where the rest is short.
-pub fn plan_rest(shift: Shift, harvest: &[u32], budgets: &mut [u32]) -> RestAnswer
-    ensures { λ r. ⌜ RestSays shift (now (harvest .entry)) (now (budgets .entry)) (now (budgets .exit)) r ⌝ }
-{
-    let refusal = refusals::rest_refusal(shift, harvest, budgets.len());
-    if !is_none(refusal) {
-        return RestAnswer::Refused(refusal);
-    }
-    let from = shift.recorded as usize;
-    let charge = shift.charge as u64;
-    let end = shift.end as u64;
-    let rest = &harvest[from..];
-    let most = charge + request::sum(rest);
-    if most < end {
-        clear::clear(&mut budgets[from..]);
-        return RestAnswer::Short(end - most);
-    }
-    plan_into(
-        shift.capacity as u64,
-        charge,
-        end,
-        most,
-        rest,
-        &mut budgets[from..],
-    );
-    RestAnswer::Planned
-}
-
-// The part of the budgets that begins at the next frame, lying where they lie. The refusal goes to the lent number and P, both 0
-// if there is none; with a refusal the part is empty.
-pub fn rest_part<'a>(shift: Shift, budgets: &'a [u32], number: &mut u32, p: &mut u64) -> &'a [u32]
-    ensures { λ r. ⌜ PartSays shift (now (budgets .entry)) (now r) (ptr (budgets .entry)) (ptr r) (now (number .exit)) (now (p .exit)) ⌝ }
-{
-    let refusal = refusals::part_refusal(shift, budgets.len());
-    *number = refusal.number;
-    *p = refusal.p;
-    if refusal.number != 0 {
-        return &budgets[0..0];
-    }
-    let next = shift.recorded as usize;
-    &budgets[next..]
 }

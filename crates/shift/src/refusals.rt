@@ -1,17 +1,12 @@
-// The refusals of each entry of a shift, in its order.
+// Refusals 22, 20 and 21, and recording's, as its list in the definitions has them.
 ghost use mathlib.Core.Path.{_≡_};
-ghost use mathlib.Core.List.{[], _∷_};
-ghost use Rattle.model.specs.Refusals.{firstOf, harvestOverLimit};
 ghost use Rattle.shift.specs.Shift.{allRecorded, notShift, recordRefusal, useTooGreat};
-ghost use Rattle.shift.specs.Rest.{partRefusal, readyRefusals, restRefusal};
 use crate::Shift;
 use crate::state::is_shift;
 use model::Refusal;
-use model::limits::MAX_HARVEST;
+use model::frame::at_hand;
 use request::first_of;
 use request::harvest_refusal;
-use request::is_none;
-use request::length_refusal;
 use request::refuse_if;
 
 // Refusal 22.
@@ -23,85 +18,35 @@ pub fn shift_refusal(s: Shift) -> Refusal
 
 // Refusal 20.
 pub fn done_refusal(s: Shift) -> Refusal
-    ensures { λ r. ⌜ r ≡ allRecorded (s .frames) (s .recorded) ⌝ }
+    ensures { λ r. ⌜ r ≡ allRecorded (s .terms) (s .now) ⌝ }
 {
-    refuse_if(s.recorded == s.frames, 20)
-}
-
-// Refusal 6 of one harvest.
-pub fn limit_refusal(harvest: u32, frame: u64) -> Refusal
-    ensures { λ r. ⌜ r ≡ harvestOverLimit frame (harvest ∷ []) ⌝ }
-{
-    if harvest > MAX_HARVEST {
-        Refusal {
-            number: 6,
-            p: frame,
-        }
-    } else {
-        Refusal { number: 0, p: 0 }
-    }
+    refuse_if(s.now.recorded == s.terms.frames, 20)
 }
 
 // Refusal 21.
-pub fn use_refusal(charge: u32, harvest: u32, used: u32) -> Refusal
-    ensures { λ r. ⌜ r ≡ useTooGreat charge harvest used ⌝ }
+pub fn use_refusal(s: Shift, harvest: u32, used: u32) -> Refusal
+    ensures { λ r. ⌜ r ≡ useTooGreat (s .terms) (s .now) harvest used ⌝ }
 {
-    let at_hand = charge as u64 + harvest as u64;
+    let have = at_hand(s.terms.capacity, s.now.charge, harvest);
     let taken = used as u64;
-    if taken > at_hand {
+    if taken > have {
         Refusal {
             number: 21,
-            p: taken - at_hand,
+            p: taken - have,
         }
     } else {
         Refusal { number: 0, p: 0 }
     }
 }
 
-// Recording: 22, 20, 6 with the frame being recorded, 21.
+// Recording. The harvest is looked at as a list of one.
 pub fn record_refusal(s: Shift, harvest: u32, used: u32) -> Refusal
     ensures { λ r. ⌜ r ≡ recordRefusal s harvest used ⌝ }
 {
     let state = shift_refusal(s);
     let done = done_refusal(s);
-    let limit = limit_refusal(harvest, s.recorded as u64 + 1);
-    let excess = use_refusal(s.charge, harvest, used);
+    let one = [harvest];
+    let limit = harvest_refusal(&one, s.now.recorded as u64 + 1);
+    let excess = use_refusal(s, harvest, used);
     first_of(state, first_of(done, first_of(limit, excess)))
-}
-
-// Returning the part that is left of so many budgets: 22, 7, 20.
-pub fn part_refusal(s: Shift, budgets: usize) -> Refusal
-    ensures { λ r. ⌜ r ≡ partRefusal s budgets ⌝ }
-{
-    let state = shift_refusal(s);
-    let length = length_refusal(s.frames as usize, budgets);
-    let done = done_refusal(s);
-    first_of(state, first_of(length, done))
-}
-
-// What planning checks before it looks at the harvests: 22, 7 for either list, 20.
-pub fn ready_refusal(s: Shift, harvest: usize, budgets: usize) -> Refusal
-    ensures { λ r. ⌜ r ≡ firstOf (readyRefusals s harvest budgets) ⌝ }
-{
-    let frames = s.frames as usize;
-    let state = shift_refusal(s);
-    let harvest_length = length_refusal(frames, harvest);
-    let budgets_length = length_refusal(frames, budgets);
-    let done = done_refusal(s);
-    first_of(
-        state,
-        first_of(harvest_length, first_of(budgets_length, done)),
-    )
-}
-
-// Planning the rest into so many budgets: 22, 7, 20, 6 over the unrecorded frames.
-pub fn rest_refusal(s: Shift, harvest: &[u32], budgets: usize) -> Refusal
-    ensures { λ r. ⌜ r ≡ restRefusal s (now (harvest .entry)) budgets ⌝ }
-{
-    let ready = ready_refusal(s, harvest.len(), budgets);
-    if !is_none(ready) {
-        return ready;
-    }
-    let from = s.recorded as usize;
-    harvest_refusal(&harvest[from..], s.recorded as u64 + 1)
 }

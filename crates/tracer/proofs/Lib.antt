@@ -1,5 +1,4 @@
--- What the tracer rests on: one frame in 64-bit numbers, the frames one after another, and the verdict.
-pub mod Frame
+-- What the tracer rests on: the frames one after another, and the verdict.
 pub mod Frames
 pub mod Search
 pub mod Meaning

@@ -15,7 +15,7 @@ use Rattle.model.specs.Request.{Request, frameCount}
 use Rattle.model.specs.Refusals.{gives, refuses, isNone, traceRefusal}
 use Rattle.model.specs.Trace.{below-zero, end-too-low, is-feasible, belowFrom, lastFrom, trace, verdict, EarliestBelow}
 use Rattle.model.proofs.Trace as model
-use Rattle.request.proofs.Order.{apart, pick-by}
+use Rattle.model.proofs.Choice.{apart, pick-by}
 use Rattle.request.proofs.Within.{trace-within}
 use Rattle.tracer.specs.declared.TraceAnswer.{TraceAnswer}
 use Rattle.tracer.specs.declared.TraceAnswer.the-variants.{Feasible, EndTooLow, BelowZero, Refused}
@@ -24,7 +24,8 @@ use Rattle.tracer.proofs.Frames.{trace-length}
 use Rattle.tracer.proofs.Search.{last-any, none-below}
 
 -- a refusal alters nothing and is answered
-pub refused : (q : Request) (bs : List ℕ) (xs : List ℤ) (f : Refusal) → f ≡ traceRefusal q (length bs) (length xs) → isNone f ≡ false → TraceSays q bs xs xs (Refused f)
+pub refused : (q : Request) (bs : List ℕ) (xs : List ℤ) (f : Refusal) → f ≡ traceRefusal q (length bs) (length xs) →
+    isNone f ≡ false → TraceSays q bs xs xs (Refused f)
 refused q bs xs f p e =
     let g = traceRefusal q (length bs) (length xs) in
     let n : isNone g ≡ false = sym (ap isNone p) ∙ e in
@@ -39,19 +40,22 @@ refused q bs xs f p e =
 
 -- the answer that the charges earn is the verdict that they earn
 said-by : (k : ℕ) (s t : Bool)
-    → said (pick s (BelowZero k) (pick t Feasible EndTooLow)) ≡ gives (pick s (below-zero k) (pick t is-feasible end-too-low))
+    → said (pick s (BelowZero k) (pick t Feasible EndTooLow)) ≡ gives
+    (pick s (below-zero k) (pick t is-feasible end-too-low))
 said-by k true t = refl
 said-by k false true = refl
 said-by k false false = refl
 
-said-judged : (q : Request) (bs : List ℕ) → 1 ≤ frameCount q → length bs ≡ frameCount q → said (judged (q .end) (trace q bs)) ≡ gives (verdict q bs)
+said-judged : (q : Request) (bs : List ℕ) → 1 ≤ frameCount q → length bs ≡ frameCount q →
+    said (judged (q .figures .end) (trace q bs)) ≡ gives (verdict q bs)
 said-judged q bs l m =
     let zs = trace q bs in
     let k = belowFrom 1 zs in
-    let n = trace-length (q .capacity) (pos (q .start)) (q .harvest) bs m in
-    said-by k (leb 1 k) (leZ (pos (q .end)) (lastFrom (pos 0) zs))
-    ∙ ap (λ (z : ℤ). gives (pick (leb 1 k) (below-zero k) (pick (leZ (pos (q .end)) z) is-feasible end-too-low)))
-    (last-any (pos 0) (pos (q .start)) zs (omega arith))
+    let n = trace-length (q .figures .capacity) (pos (q .figures .start)) (q .harvest) bs m in
+    said-by k (leb 1 k) (leZ (pos (q .figures .end)) (lastFrom (pos 0) zs))
+    ∙ ap (λ (z : ℤ). gives
+    (pick (leb 1 k) (below-zero k) (pick (leZ (pos (q .figures .end)) z) is-feasible end-too-low)))
+    (last-any (pos 0) (pos (q .figures .start)) zs (omega arith))
 
 -- only one answer says "feasible", and only one names a frame
 said-feasible : (r : TraceAnswer) → said r ≡ gives is-feasible → r ≡ Feasible
@@ -61,37 +65,43 @@ said-feasible (BelowZero n) e = cc
 said-feasible (Refused f) e = cc
 
 -- a frame that the verdict names is the earliest below zero
-earliest-of : (q : Request) (bs : List ℕ) (ys : List ℤ) (k : ℕ) → verdict q bs ≡ below-zero k → ys ≡ trace q bs → (i : ℕ) × (k ≡ suc i) × EarliestBelow i ys
+earliest-of : (q : Request) (bs : List ℕ) (ys : List ℤ) (k : ℕ) → verdict q bs ≡ below-zero k → ys ≡ trace q bs →
+    (i : ℕ) × (k ≡ suc i) × EarliestBelow i ys
 earliest-of q bs ys k u p =
     subst (λ (zs : List ℤ). (i : ℕ) × (k ≡ suc i) × EarliestBelow i zs) (sym p) (model.verdict-below q bs k u)
 
 -- the two tests behind "end too low"
-low-by : (k : ℕ) (s t : Bool) → pick s (below-zero k) (pick t is-feasible end-too-low) ≡ end-too-low → (s ≡ false) × (t ≡ false)
+low-by : (k : ℕ) (s t : Bool) → pick s (below-zero k) (pick t is-feasible end-too-low) ≡ end-too-low →
+    (s ≡ false) × (t ≡ false)
 low-by k true t e = apart (cc)
 low-by k false true e = apart (cc)
 low-by k false false e = (refl, refl)
 
 -- "end too low" says that none but the last is below zero, and that the last is below the end charge
 too-low-of : (q : Request) (bs : List ℕ) (ys : List ℤ) → verdict q bs ≡ end-too-low → ys ≡ trace q bs
-    → ((j : ℕ) → suc j < length ys → nonNeg (getD ys j (pos 0)) ≡ true) × (leZ (pos (q .end)) (lastFrom (pos (q .start)) ys) ≡ false)
+    → ((j : ℕ) → suc j < length ys → nonNeg (getD ys j (pos 0)) ≡ true) ×
+    (leZ (pos (q .figures .end)) (lastFrom (pos (q .figures .start)) ys) ≡ false)
 too-low-of q bs ys u p =
     let zs = trace q bs in
     let k = belowFrom 1 zs in
-    let l = low-by k (leb 1 k) (leZ (pos (q .end)) (lastFrom (pos (q .start)) zs)) u in
+    let l = low-by k (leb 1 k) (leZ (pos (q .figures .end)) (lastFrom (pos (q .figures .start)) zs)) u in
     let n : k < 1 = leb-false 1 k (l .0) in
     subst
-    (λ (xs : List ℤ). ((j : ℕ) → suc j < length xs → nonNeg (getD xs j (pos 0)) ≡ true) × (leZ (pos (q .end)) (lastFrom (pos (q .start)) xs) ≡ false))
+    (λ (xs : List ℤ). ((j : ℕ) → suc j < length xs → nonNeg (getD xs j (pos 0)) ≡ true) ×
+    (leZ (pos (q .figures .end)) (lastFrom (pos (q .figures .start)) xs) ≡ false))
     (sym p)
     (none-below 0 zs (omega arith), l .1)
 
 -- where nothing is refused, the charges of the trace and the answer that they earn keep the promise
-pub traced : (q : Request) (bs : List ℕ) (xs ys : List ℤ) (r : TraceAnswer) → isNone (traceRefusal q (length bs) (length xs)) ≡ true
-    → ys ≡ trace q bs → r ≡ judged (q .end) ys → TraceSays q bs xs ys r
+pub traced : (q : Request) (bs : List ℕ) (xs ys : List ℤ) (r : TraceAnswer) →
+    isNone (traceRefusal q (length bs) (length xs)) ≡ true
+    → ys ≡ trace q bs → r ≡ judged (q .figures .end) ys → TraceSays q bs xs ys r
 traced q bs xs ys r n p e =
     let g = traceRefusal q (length bs) (length xs) in
     let w = trace-within q (length bs) (length xs) n in
     let v : said r ≡ gives (verdict q bs) =
-    ap said e ∙ ap (λ (zs : List ℤ). said (judged (q .end) zs)) p ∙ said-judged q bs (w .frames .some) (w .budgets) in
+    ap said e ∙ ap (λ (zs : List ℤ). said (judged (q .figures .end) zs)) p
+    ∙ said-judged q bs (w .frames .some) (w .budgets) in
     let m = model.verdict-feasible q bs (w .budgets) in
     record {
       answer = v ∙ sym (pick-by (isNone g) true (gives (verdict q bs)) (refuses g) n);

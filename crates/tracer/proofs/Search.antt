@@ -16,13 +16,14 @@ use mir.Val.{toZ, ofZ}
 use borrow.Author.Tests.{le-leb, lt-leb}
 use Rattle.model.specs.Choice.{pick}
 use Rattle.model.specs.Trace.{belowFrom, lastFrom}
-use Rattle.request.proofs.Order.{pick-by}
+use Rattle.model.proofs.Choice.{pick-by}
 use Rattle.tracer.specs.Says.{judged}
 use Rattle.tracer.specs.declared.TraceAnswer.the-variants.{Feasible, EndTooLow, BelowZero}
-use Rattle.tracer.proofs.Frame.{widen, back}
+use Rattle.model.proofs.Machine.{widen, back}
 
 -- two charges that are left
-two : (i : ℕ) (zs : List ℤ) → i + 1 < length zs → drop i zs ≡ getD zs i (pos 0) ∷ (getD zs (suc i) (pos 0) ∷ drop (suc (suc i)) zs)
+two : (i : ℕ) (zs : List ℤ) → i + 1 < length zs → drop i zs ≡ getD zs i (pos 0)
+    ∷ (getD zs (suc i) (pos 0) ∷ drop (suc (suc i)) zs)
 two i zs l =
     drop-cons zs i (pos 0) (omega arith)
     ∙ ap (λ (ys : List ℤ). getD zs i (pos 0) ∷ ys) (drop-cons zs (suc i) (pos 0) (omega arith))
@@ -33,7 +34,8 @@ by-sign : (k : ℕ) (z y : ℤ) (zs : List ℤ) (t : Bool) → nonNeg z ≡ t
 by-sign k z y zs t e = ap (λ (u : Bool). elim u as (λ _. ℕ) [ true ↦ belowFrom (suc k) (y ∷ zs) | false ↦ k ]) e
 
 -- a charge below zero that is not the last is the one found
-pub found : (k i : ℕ) (zs : List ℤ) → i + 1 < length zs → nonNeg (getD zs i (pos 0)) ≡ false → belowFrom k (drop i zs) ≡ k
+pub found : (k i : ℕ) (zs : List ℤ) → i + 1 < length zs → nonNeg (getD zs i (pos 0)) ≡ false →
+    belowFrom k (drop i zs) ≡ k
 found k i zs l e =
     ap (belowFrom k) (two i zs l)
     ∙ by-sign k (getD zs i (pos 0)) (getD zs (suc i) (pos 0)) (drop (suc (suc i)) zs) false e
@@ -73,28 +75,35 @@ last-any x y (z ∷ zs) l = refl
 pub judged-below : (e : ℕ) (zs : List ℤ) (k : ℕ) → k ≡ belowFrom 1 zs → 1 ≤ k → BelowZero k ≡ judged e zs
 judged-below e zs k p l =
     ap BelowZero p
-    ∙ sym (pick-by (leb 1 (belowFrom 1 zs)) true (BelowZero (belowFrom 1 zs)) (pick (leZ (pos e) (lastFrom (pos 0) zs)) Feasible EndTooLow)
+    ∙ sym (pick-by (leb 1 (belowFrom 1 zs)) true (BelowZero (belowFrom 1 zs))
+    (pick (leZ (pos e) (lastFrom (pos 0) zs)) Feasible EndTooLow)
     (le-leb 1 (belowFrom 1 zs) (omega arith)))
 
 -- the answer where none is: the machine's test of the last charge decides
-pub judged-end : (e n : ℕ) (zs : List ℤ) → belowFrom 1 zs < 1 → length zs ≡ suc n → e < 2 ^ 32 → mag (getD zs n (pos 0)) < 2 ^ 63
-    → (t : Bool) → leZ (toZ w64 e) (toZ w64 (ofZ w64 (getD zs n (pos 0)))) ≡ t → pick t Feasible EndTooLow ≡ judged e zs
+pub judged-end : (e n : ℕ) (zs : List ℤ) → belowFrom 1 zs < 1 → length zs ≡ suc n → e < 2 ^ 32 →
+    mag (getD zs n (pos 0)) < 2 ^ 63
+    → (t : Bool) → leZ (toZ w64 e) (toZ w64 (ofZ w64 (getD zs n (pos 0)))) ≡ t →
+    pick t Feasible EndTooLow ≡ judged e zs
 judged-end e n zs l m fe fz t q =
     let u : leZ (pos e) (getD zs n (pos 0)) ≡ t = rw (widen e fe, back (getD zs n (pos 0)) fz) at q in
     let last : leZ (pos e) (lastFrom (pos 0) zs) ≡ t = rw (last-is (pos 0) n zs m) u in
     sym
-    (pick-by (leb 1 (belowFrom 1 zs)) false (BelowZero (belowFrom 1 zs)) (pick (leZ (pos e) (lastFrom (pos 0) zs)) Feasible EndTooLow)
+    (pick-by (leb 1 (belowFrom 1 zs)) false (BelowZero (belowFrom 1 zs))
+    (pick (leZ (pos e) (lastFrom (pos 0) zs)) Feasible EndTooLow)
     (lt-leb 1 (belowFrom 1 zs) l)
     ∙ pick-by (leZ (pos e) (lastFrom (pos 0) zs)) t Feasible EndTooLow last)
 
 -- where no frame is found, none but the last is below zero
-pub none-below : (k : ℕ) (zs : List ℤ) → belowFrom (suc k) zs ≡ 0 → (j : ℕ) → suc j < length zs → nonNeg (getD zs j (pos 0)) ≡ true
+pub none-below : (k : ℕ) (zs : List ℤ) → belowFrom (suc k) zs ≡ 0 → (j : ℕ) → suc j < length zs →
+    nonNeg (getD zs j (pos 0)) ≡ true
 none-below k [] e j l = let b : ⊥ = omega arith in absurd b
 none-below k (z ∷ []) e j l = let b : ⊥ = omega arith in absurd b
 none-below k (z ∷ (y ∷ zs)) e j l = go (nonNeg z) refl e (none-below (suc k) (y ∷ zs)) j l
   where
-    go : (t : Bool) → nonNeg z ≡ t → _≡_ {A = ℕ} (elim t as (λ _. ℕ) [ true ↦ belowFrom (suc (suc k)) (y ∷ zs) | false ↦ suc k ]) 0
-        → (belowFrom (suc (suc k)) (y ∷ zs) ≡ 0 → (i : ℕ) → suc i < length (y ∷ zs) → nonNeg (getD (y ∷ zs) i (pos 0)) ≡ true)
+    go : (t : Bool) → nonNeg z ≡ t →
+        _≡_ {A = ℕ} (elim t as (λ _. ℕ) [ true ↦ belowFrom (suc (suc k)) (y ∷ zs) | false ↦ suc k ]) 0
+        → (belowFrom (suc (suc k)) (y ∷ zs) ≡ 0 → (i : ℕ) → suc i < length (y ∷ zs) →
+        nonNeg (getD (y ∷ zs) i (pos 0)) ≡ true)
         → (i : ℕ) → suc i < length (z ∷ (y ∷ zs)) → nonNeg (getD (z ∷ (y ∷ zs)) i (pos 0)) ≡ true
     go true q h ih zero m = q
     go true q h ih (suc i) m = ih h i (omega arith)

@@ -1,4 +1,5 @@
--- What the tracer promises: its answer is document 01's verdict or refusal, and the lent charges are the trace or stay as they were.
+-- What the tracer promises: its answer is document 01's verdict or refusal, and the lent charges are the trace or
+-- stay as they were.
 use mathlib.Core.Path.{_≡_}
 use mathlib.Core.Logic.{_↔_}
 use mathlib.Core.Bool.{true, false}
@@ -12,7 +13,8 @@ use Rattle.model.specs.Choice.{pick}
 use Rattle.model.specs.Request.{Request}
 use Rattle.model.specs.Charge as C
 use Rattle.model.specs.Refusals.{Outcome, gives, refuses, outcome, isNone, traceRefusal}
-use Rattle.model.specs.Trace.{Verdict, below-zero, end-too-low, is-feasible, belowFrom, lastFrom, trace, verdict, EarliestBelow}
+use Rattle.model.specs.Trace.{Verdict, below-zero, end-too-low, is-feasible, belowFrom, lastFrom, trace, verdict}
+use Rattle.model.specs.Trace.{EarliestBelow}
 use Rattle.tracer.specs.declared.TraceAnswer.{TraceAnswer}
 use Rattle.tracer.specs.declared.TraceAnswer.the-variants.{Feasible, EndTooLow, BelowZero, Refused}
 
@@ -39,4 +41,6 @@ pub record TraceSays (q : Request) (bs : List ℕ) (xs ys : List ℤ) (r : Trace
   -- a frame named is the earliest below zero
   pub earliest : (n : ℕ) → r ≡ BelowZero n → (i : ℕ) × (n ≡ suc i) × EarliestBelow i ys
   -- "end too low": none but the last is below zero, and the last is below the end charge
-  pub too-low : r ≡ EndTooLow → ((j : ℕ) → suc j < length ys → nonNeg (getD ys j (pos 0)) ≡ true) × (leZ (pos (q .end)) (lastFrom (pos (q .start)) ys) ≡ false)
+  pub too-low : r ≡ EndTooLow →
+      ((j : ℕ) → suc j < length ys → nonNeg (getD ys j (pos 0)) ≡ true) ×
+      (leZ (pos (q .figures .end)) (lastFrom (pos (q .figures .start)) ys) ≡ false)

@@ -1,9 +1,12 @@
 // The tracer: the charge after each frame of any supplied budgets, below zero included, and the verdict on them.
 ghost use Rattle.model.specs.Request.{request};
 ghost use Rattle.tracer.specs.Says.{TraceSays};
+use model::Figures;
 
 mod recurrence;
 mod verdicts;
+
+pub use recurrence::fill;
 
 // What the tracer answers. A frame below zero has its number, counted from 1.
 pub enum TraceAnswer {
@@ -14,22 +17,16 @@ pub enum TraceAnswer {
 }
 
 // Writes the charge after each frame of the budgets, and gives the verdict. A refusal alters nothing.
-pub fn trace(
-    capacity: u32,
-    start: u32,
-    end: u32,
-    harvest: &[u32],
-    budgets: &[u32],
-    charges: &mut [i64],
-) -> TraceAnswer
-    ensures { λ r. ⌜ TraceSays (request capacity start end (now (harvest .entry))) (now (budgets .entry)) (now (charges .entry)) (now (charges .exit)) r ⌝ }
+pub fn trace(figures: Figures, harvest: &[u32], budgets: &[u32], charges: &mut [i64]) -> TraceAnswer
+    ensures { λ r. ⌜ TraceSays (request figures (now (harvest .entry))) (now (budgets .entry)) (now (charges .entry))
+        (now (charges .exit)) r ⌝ }
 {
     let n = budgets.len();
     let m = charges.len();
-    let f = request::trace_refusal(capacity, start, end, harvest, n, m);
+    let f = request::trace_refusal(figures, harvest, n, m);
     if !request::is_none(f) {
         return TraceAnswer::Refused(f);
     }
-    recurrence::fill(capacity, start, harvest, budgets, charges);
-    verdicts::judge(end, charges)
+    recurrence::fill(figures, harvest, budgets, charges);
+    verdicts::judge(figures.end, charges)
 }

@@ -1,12 +1,12 @@
 -- Where broken files are refused, computed from the definitions.
 use mathlib.Core.Path.{_≡_, refl}
-use mathlib.Core.List.{List, [], _∷_}
+use mathlib.Core.List.{[], _∷_}
 use Rattle.model.specs.Refusals.{none, refusal}
-use Rattle.wordfile.specs.Words.{bytesOf}
+use Rattle.words.specs.Words.{bytesOf}
 use Rattle.wordfile.specs.File.{readRefusal}
 
--- no byte, a broken first word, no fourth word, kind 2, a wrong count, a word too many, a list too short; and no harvests with
--- count 0, which is a file
+-- no byte, a broken first word, no fourth word, kind 2, a wrong count, a word too many, a list too short; and no
+-- harvests with count 0, which is a file
 pub broken-places :
     (readRefusal [] 2 ≡ refusal 8 0)
     × (readRefusal (0 ∷ 0 ∷ 0 ∷ []) 2 ≡ refusal 8 0)

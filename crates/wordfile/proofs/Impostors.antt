@@ -6,7 +6,7 @@ use Prim.Native.Nat.{ℕ, _≤_}
 use lib.ListN.{length}
 use borrow.Author.Tests.{le-ltb}
 use Rattle.model.specs.declared.Refusal.{Refusal}
-use Rattle.model.specs.Request.{Request, request}
+use Rattle.model.specs.Request.{Request, request, figures}
 use Rattle.model.specs.Refusals.{isNone, refuseIf, firstOf, figureRefusals}
 use Rattle.model.proofs.Outcome.{no-refusal}
 use Rattle.wordfile.specs.File.{requestIn, readRefusal, fileBytes, writeRefusal}
@@ -16,10 +16,11 @@ use Rattle.wordfile.specs.declared.writer.WriteAnswer.the-variants as Wr
 
 -- a request of two frames, whose file has 24 bytes
 abbrev pub asked : Request
-asked = request 9 0 0 (1 ∷ 2 ∷ [])
+asked = request (figures 9 0 0) (1 ∷ 2 ∷ [])
 
 -- no refusal to read its file into a list of two or more entries, whatever its number and P
-pub not-refused-read : (h h′ : List ℕ) (f : Refusal) → 2 ≤ length h → ReadSays (fileBytes asked) h h′ (Read.Refused f) → ⊥
+pub not-refused-read :
+    (h h′ : List ℕ) (f : Refusal) → 2 ≤ length h → ReadSays (fileBytes asked) h h′ (Read.Refused f) → ⊥
 not-refused-read h h′ f l p =
     no-refusal (readRefusal (fileBytes asked) (length h)) (headerOf (requestIn (fileBytes asked)))
     (ap (λ (t : Bool). isNone (firstOf (refuseIf t 7 ∷ []))) (le-ltb (length h) 2 l)) f (p .answer)

@@ -1,7 +1,6 @@
--- Laws of lent lists, of words, of the form, of the file; reading back what was written; the worked case.
-pub mod Lists
-pub mod Words
+-- Laws of the form, of the harvests found, of the file; reading back what was written; broken files.
 pub mod Machine
+pub mod Found
 pub mod Files
 pub mod Written
 pub mod Refused

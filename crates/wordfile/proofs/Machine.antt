@@ -1,136 +1,136 @@
--- The machine over the words: what each word is to it, and one step of it over a file.
+-- The machine over the words: what each word does to it, and one step of it.
 use mathlib.Core.Path.{_≡_, refl, sym, ap, _∙_}
+use mathlib.Core.Bool.{Bool, true, false}
 use mathlib.Core.List.{List, [], _∷_}
-use Prim.Native.Nat.{ℕ, zero, suc, _+_, _*_, _≤_, _<_}
+use Prim.Native.Nat.{ℕ, suc, _+_, _≤_, _<_}
 use native.Mathlib.Omega.{arith}
-use borrow.Author.Tests.{lt-ltb, le-ltb, eq-eqb, ne-eqb}
+use lib.Dec.{eqb, ltb}
+use borrow.Author.Tests.{lt-ltb, le-ltb, eq-eqb, ne-eqb, ltb-true, ltb-false, eqb-true}
 use lib.ListN.{length, getD, drop, drop-of-length-le}
-use lib.Seq.{getD-drop, drop-cons}
-use Rattle.wordfile.specs.Words.{kindOf, valueIn, wordAt, wordsFrom}
-use Rattle.wordfile.specs.Form.{roleOf, scan}
-use Rattle.wordfile.specs.declared.form.Role.{Role}
-use Rattle.wordfile.specs.declared.form.Role.the-variants.{Figure, Harvest, End, Wrong}
+use lib.Seq.{drop-cons}
+use Rattle.model.specs.Choice.{pick}
+use Rattle.words.specs.Words.{kindOf, valueIn}
+use Rattle.wordfile.specs.Form.{state, stepOf, scan, placeIn}
+use Rattle.wordfile.specs.declared.form.State.{State}
+use Rattle.wordfile.specs.declared.form.Step.{Step}
+use Rattle.wordfile.specs.declared.form.Step.the-variants.{On, End, Wrong}
 use Rattle.wordfile.specs.declared.form.Form.{Form}
 use Rattle.wordfile.specs.declared.form.Form.the-variants.{Closed, Broken}
 
--- what a word is, by the tests that the code makes of its kind k and its value v
-module _ (f h w k : ℕ) (kind : k ≡ kindOf w) where
-  pub is-figure : f < 3 → k ≡ 0 → Figure ≡ roleOf f h w
-  is-figure l e = rw (lt-ltb f 3 l, eq-eqb (kindOf w) 0 (sym kind ∙ e))
+-- what a word does, by the tests that the code makes of its kind k and its value v
+module _ (s : State) (w : ℕ) {k : ℕ} (kind : k ≡ kindOf w) where
+  pub is-figure : s .figures < 3 → k ≡ 0 → On (state (s .figures + 1) (s .frames)) ≡ stepOf s w
+  is-figure l e = rw (lt-ltb (s .figures) 3 l, eq-eqb (kindOf w) 0 (sym kind ∙ e))
 
-  pub no-figure : f < 3 → (k ≡ 0 → ⊥) → Wrong ≡ roleOf f h w
-  no-figure l e = rw (lt-ltb f 3 l, ne-eqb (kindOf w) 0 (λ z. e (kind ∙ z)))
+  pub no-figure : s .figures < 3 → (k ≡ 0 → ⊥) → Wrong ≡ stepOf s w
+  no-figure l e = rw (lt-ltb (s .figures) 3 l, ne-eqb (kindOf w) 0 (λ z. e (kind ∙ z)))
 
-  pub is-harvest : 3 ≤ f → k ≡ 1 → Harvest ≡ roleOf f h w
-  is-harvest l e = rw (le-ltb f 3 l, eq-eqb (kindOf w) 1 (sym kind ∙ e))
+  module _ (l : 3 ≤ s .figures) where
+    pub is-harvest : k ≡ 1 → On (state (s .figures) (s .frames + 1)) ≡ stepOf s w
+    is-harvest e = rw (le-ltb (s .figures) 3 l, eq-eqb (kindOf w) 1 (sym kind ∙ e))
 
-  pub is-end : 3 ≤ f → k ≡ 3 → (v : ℕ) → v ≡ valueIn w → v ≡ h → End ≡ roleOf f h w
-  is-end l e v vs m =
-      rw (
-        le-ltb f 3 l,
-        ne-eqb (kindOf w) 1 (λ (z : kindOf w ≡ 1). omega arith),
-        eq-eqb (kindOf w) 3 (sym kind ∙ e),
-        eq-eqb (valueIn w) h (sym vs ∙ m),
-      )
+    pub other-kind : (k ≡ 1 → ⊥) → (k ≡ 3 → ⊥) → Wrong ≡ stepOf s w
+    other-kind a b =
+        rw (le-ltb (s .figures) 3 l, ne-eqb (kindOf w) 1 (λ z. a (kind ∙ z)), ne-eqb (kindOf w) 3 (λ z. b (kind ∙ z)))
 
-  pub no-end : 3 ≤ f → k ≡ 3 → (v : ℕ) → v ≡ valueIn w → (v ≡ h → ⊥) → Wrong ≡ roleOf f h w
-  no-end l e v vs m =
-      rw (
-        le-ltb f 3 l,
-        ne-eqb (kindOf w) 1 (λ (z : kindOf w ≡ 1). omega arith),
-        eq-eqb (kindOf w) 3 (sym kind ∙ e),
-        ne-eqb (valueIn w) h (λ z. m (vs ∙ z)),
-      )
+    -- a word of kind 3
+    module _ (e : k ≡ 3) {v : ℕ} (value : v ≡ valueIn w) where
+      three : (t : Bool) → eqb (valueIn w) (s .frames) ≡ t → pick t End Wrong ≡ stepOf s w
+      three t q =
+          let n = ne-eqb (kindOf w) 1 (λ (z : kindOf w ≡ 1). omega arith) in
+          rw (le-ltb (s .figures) 3 l, n, eq-eqb (kindOf w) 3 (sym kind ∙ e), q)
 
-  pub other-kind : 3 ≤ f → (k ≡ 1 → ⊥) → (k ≡ 3 → ⊥) → Wrong ≡ roleOf f h w
-  other-kind l a b = rw (le-ltb f 3 l, ne-eqb (kindOf w) 1 (λ z. a (kind ∙ z)), ne-eqb (kindOf w) 3 (λ z. b (kind ∙ z)))
+      pub is-end : v ≡ s .frames → End ≡ stepOf s w
+      is-end m = three true (eq-eqb (valueIn w) (s .frames) (sym value ∙ m))
 
--- the word at a byte of what is left of a list
-pub word-drop : (s : List ℕ) (m at : ℕ) → wordAt (drop m s) at ≡ wordAt s (m + at)
-word-drop s m at =
-    let e1 : m + (at + 1) ≡ m + at + 1 = omega arith in
-    let e2 : m + (at + 2) ≡ m + at + 2 = omega arith in
-    let e3 : m + (at + 3) ≡ m + at + 3 = omega arith in
-    rw (getD-drop m s at 0, getD-drop m s (at + 1) 0, getD-drop m s (at + 2) 0, getD-drop m s (at + 3) 0, e1, e2, e3)
+      pub no-end : (v ≡ s .frames → ⊥) → Wrong ≡ stepOf s w
+      no-end m = three false (ne-eqb (valueIn w) (s .frames) (λ z. m (value ∙ z)))
 
-pub words-length : (n : ℕ) (s : List ℕ) → length (wordsFrom n s) ≡ n
-words-length zero s = refl
-words-length (suc n) s = ap suc (words-length n (drop 4 s))
+-- what a word did, with the facts of each case
+pub data Did (s : State) (w : ℕ) : Type 0 where
+  figure : s .figures < 3 → kindOf w ≡ 0 → On (state (s .figures + 1) (s .frames)) ≡ stepOf s w → Did s w
+  harvest : 3 ≤ s .figures → kindOf w ≡ 1 → On (state (s .figures) (s .frames + 1)) ≡ stepOf s w → Did s w
+  ended : 3 ≤ s .figures → kindOf w ≡ 3 → valueIn w ≡ s .frames → End ≡ stepOf s w → Did s w
+  broke : Wrong ≡ stepOf s w → Did s w
 
--- word number i
-pub words-at : (n : ℕ) (s : List ℕ) (i : ℕ) → i < n → getD (wordsFrom n s) i 0 ≡ wordAt s (4 * i)
-words-at zero s i l = absurd (omega arith)
-words-at (suc n) s zero l = refl
-words-at (suc n) s (suc i) l =
-    let e : 4 + 4 * i ≡ 4 * suc i = omega arith in
-    words-at n (drop 4 s) i (omega arith) ∙ (word-drop s 4 (4 * i) ∙ ap (wordAt s) e)
+pub did : (s : State) (w : ℕ) → Did s w
+did s w =
+    go (ltb (s .figures) 3) refl (eqb (kindOf w) 0) refl (eqb (kindOf w) 1) refl (eqb (kindOf w) 3) refl
+    (eqb (valueIn w) (s .frames)) refl
+  where
+    go : (t : Bool) → ltb (s .figures) 3 ≡ t → (a : Bool) → eqb (kindOf w) 0 ≡ a → (b : Bool) → eqb (kindOf w) 1 ≡ b →
+        (c : Bool) → eqb (kindOf w) 3 ≡ c → (d : Bool) → eqb (valueIn w) (s .frames) ≡ d → Did s w
+    go true p true q b x c y d z = figure (ltb-true (s .figures) 3 p) (eqb-true (kindOf w) 0 q) (rw (p, q))
+    go true p false q b x c y d z = broke (rw (p, q))
+    go false p a q true x c y d z = harvest (ltb-false (s .figures) 3 p) (eqb-true (kindOf w) 1 x) (rw (p, x))
+    go false p a q false x true y true z =
+        ended (ltb-false (s .figures) 3 p) (eqb-true (kindOf w) 3 y) (eqb-true (valueIn w) (s .frames) z)
+        (rw (p, x, y, z))
+    go false p a q false x true y false z = broke (rw (p, x, y, z))
+    go false p a q false x false y d z = broke (rw (p, x, y))
 
-pub words-cons : (n : ℕ) (s : List ℕ) (i : ℕ) → i < n → drop i (wordsFrom n s) ≡ wordAt s (4 * i) ∷ drop (suc i) (wordsFrom n s)
-words-cons n s i l =
-    let h : i < length (wordsFrom n s) = omega (arith, words-length n s) in
-    drop-cons (wordsFrom n s) i 0 h ∙ ap (λ (w : ℕ). w ∷ drop (suc i) (wordsFrom n s)) (words-at n s i l)
+-- a word adds at most one frame
+pub frames-grow : (s t : State) (w : ℕ) → On t ≡ stepOf s w → t .frames ≤ s .frames + 1
+frames-grow s t w e = go (did s w)
+  where
+    clash : {A : Type 0} → _≡_ {A = ℕ} 0 1 → A
+    clash z = let b : ⊥ = omega arith in absurd b
 
--- the machine, given what its next word is
-abbrev pub next : ℕ → ℕ → ℕ → List ℕ → Role → Form
-next f h i ws Figure = scan (suc f) h (suc i) ws
-next f h i ws Harvest = scan f (suc h) (suc i) ws
-next f h i ws End = Closed (suc i)
-next f h i ws Wrong = Broken i
+    next : (f k : ℕ) → On (state f k) ≡ stepOf s w → k ≡ t .frames
+    next f k q = let z : state f k ≡ t = cc in ap (λ (x : State). x .frames) z
 
-pub next-is : (f h i w : ℕ) (ws : List ℕ) (r : Role) → r ≡ roleOf f h w → scan f h i (w ∷ ws) ≡ next f h i ws r
-next-is f h i w ws r e =
+    go : Did s w → t .frames ≤ s .frames + 1
+    go (figure l k q) = omega (arith, next (s .figures + 1) (s .frames) q)
+    go (harvest l k q) = omega (arith, next (s .figures) (s .frames + 1) q)
+    go (ended l k v q) = clash cc
+    go (broke q) = clash cc
+
+-- the machine, given what its next word does
+abbrev pub next : State → ℕ → List ℕ → Step → Form
+next s i ws (On t) = scan t (suc i) ws
+next s i ws End = Closed (suc i) (s .frames)
+next s i ws Wrong = Broken i
+
+pub next-is : (s : State) (i w : ℕ) (ws : List ℕ) (r : Step) → r ≡ stepOf s w → scan s i (w ∷ ws) ≡ next s i ws r
+next-is s i w ws r e =
     ap
-    (λ (u : Role). elim u as (λ _. Form) [
-      | Figure ↦ scan (suc f) h (suc i) ws
-      | Harvest ↦ scan f (suc h) (suc i) ws
-      | End ↦ Closed (suc i)
+    (λ (u : Step). elim u as (λ _. Form) [
+      | On t ↦ scan t (suc i) ws
+      | End ↦ Closed (suc i) (s .frames)
       | Wrong ↦ Broken i
     ])
     (sym e)
     ∙ go r
   where
-    go : (u : Role) →
+    go : (u : Step) →
         elim u as (λ _. Form) [
-          | Figure ↦ scan (suc f) h (suc i) ws
-          | Harvest ↦ scan f (suc h) (suc i) ws
-          | End ↦ Closed (suc i)
+          | On t ↦ scan t (suc i) ws
+          | End ↦ Closed (suc i) (s .frames)
           | Wrong ↦ Broken i
-        ] ≡ next f h i ws u
-    go Figure = refl
-    go Harvest = refl
+        ] ≡ next s i ws u
+    go (On t) = refl
     go End = refl
     go Wrong = refl
 
--- one step of the machine over a file of n words, at word i, whose form is x
-pub step :
-    (s : List ℕ) (n f h i : ℕ) (x : Form) → i < n → scan f h i (drop i (wordsFrom n s)) ≡ x →
-    (r : Role) (w : ℕ) → w ≡ wordAt s (4 * i) → r ≡ roleOf f h w → next f h i (drop (suc i) (wordsFrom n s)) r ≡ x
-step s n f h i x l inv r w a e =
-    let u = next-is f h i (wordAt s (4 * i)) (drop (suc i) (wordsFrom n s)) r (e ∙ ap (roleOf f h) a) in
-    sym (ap (scan f h i) (words-cons n s i l) ∙ u) ∙ inv
+-- the machine at word i of a list whose form is x
+module _ (ws : List ℕ) (s : State) (i : ℕ) (x : Form) (inv : scan s i (drop i ws) ≡ x) where
+  -- one step
+  pub steps : i < length ws → (r : Step) → r ≡ stepOf s (getD ws i 0) → next s i (drop (suc i) ws) r ≡ x
+  steps l r e =
+      sym (ap (scan s i) (drop-cons ws i 0 l) ∙ next-is s i (getD ws i 0) (drop (suc i) ws) r e) ∙ inv
 
--- past the last word
-pub missing :
-    (s : List ℕ) (n f h i : ℕ) (x : Form) → n ≡ i → scan f h i (drop i (wordsFrom n s)) ≡ x → Broken n ≡ x
-missing s n f h i x e inv =
-    let none = drop-of-length-le (wordsFrom n s) {i = i} (omega (arith, words-length n s)) in
-    ap Broken e ∙ (sym (ap (scan f h i) none) ∙ inv)
-
--- the place that a form names: after the end word, or of the word that breaks the form
-abbrev pub placeIn : Form → ℕ
-placeIn (Closed words) = words
-placeIn (Broken p) = p
+  -- no word left
+  pub missing : length ws ≤ i → Broken i ≡ x
+  missing l = sym (ap (scan s i) (drop-of-length-le ws {i = i} l)) ∙ inv
 
 -- the machine names no place beyond its words
-pub place-within : (f h i : ℕ) (ws : List ℕ) → placeIn (scan f h i ws) ≤ i + length ws
-place-within f h i [] = omega arith
-place-within f h i (w ∷ ws) =
-    rw (next-is f h i w ws (roleOf f h w) refl)
-    (go (roleOf f h w) (place-within (suc f) h (suc i) ws) (place-within f (suc h) (suc i) ws))
+pub place-within : (s : State) (i : ℕ) (ws : List ℕ) → placeIn (scan s i ws) ≤ i + length ws
+place-within s i [] = omega arith
+place-within s i (w ∷ ws) =
+    rw (next-is s i w ws (stepOf s w) refl) (go (stepOf s w) (λ t. place-within t (suc i) ws))
   where
-    go : (r : Role) → placeIn (scan (suc f) h (suc i) ws) ≤ suc i + length ws → placeIn (scan f (suc h) (suc i) ws) ≤ suc i + length ws →
-        placeIn (next f h i ws r) ≤ i + length (w ∷ ws)
-    go Figure p q = omega arith
-    go Harvest p q = omega arith
-    go End p q = omega arith
-    go Wrong p q = omega arith
+    go : (r : Step) → ((t : State) → placeIn (scan t (suc i) ws) ≤ suc i + length ws) →
+        placeIn (next s i ws r) ≤ i + length (w ∷ ws)
+    go (On t) p = omega (arith, p t)
+    go End p = omega arith
+    go Wrong p = omega arith

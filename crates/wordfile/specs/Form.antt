@@ -1,37 +1,59 @@
--- The form of a word file as a machine over its words: it says where the file closed, or which word breaks the form.
-use mathlib.Core.Bool.{Bool, true, false, _&&_}
+-- The form of a word file as a machine over its words: it says where the file closed and with how many frames, or
+-- which word breaks the form.
 use mathlib.Core.List.{List, [], _∷_}
-use Prim.Native.Nat.{ℕ, suc, _+_, _*_}
+use Prim.Native.Nat.{ℕ, suc, _+_}
 use lib.Dec.{eqb, ltb}
 use Rattle.model.specs.Choice.{pick}
-use Rattle.wordfile.specs.Words.{kindOf, valueIn}
-use Rattle.wordfile.specs.declared.form.Role.{Role}
-use Rattle.wordfile.specs.declared.form.Role.the-variants.{Figure, Harvest, End, Wrong}
+use Rattle.words.specs.Words.{kindOf, valueIn}
+use Rattle.wordfile.specs.declared.form.State.{State}
+use Rattle.wordfile.specs.declared.form.Step.{Step}
+use Rattle.wordfile.specs.declared.form.Step.the-variants.{On, End, Wrong}
 use Rattle.wordfile.specs.declared.form.Form.{Form}
 use Rattle.wordfile.specs.declared.form.Form.the-variants.{Closed, Broken}
+
+-- the kinds of words: a figure, a harvest, the end word
+abbrev pub figureKind : ℕ
+figureKind = 0
+
+abbrev pub harvestKind : ℕ
+harvestKind = 1
+
+abbrev pub endKind : ℕ
+endKind = 3
 
 -- how many figures come first: capacity, start, end
 abbrev pub figureCount : ℕ
 figureCount = 3
 
--- what a word is after that many figures and harvests: kind 0 for a figure, 1 for a harvest, 3 with the count for the end
-abbrev pub roleOf : ℕ → ℕ → ℕ → Role
-roleOf figures harvests w =
-    pick (ltb figures figureCount)
-    (pick (eqb (kindOf w) 0) Figure Wrong)
-    (pick (eqb (kindOf w) 1) Harvest (pick (eqb (kindOf w) 3) (pick (eqb (valueIn w) harvests) End Wrong) Wrong))
+-- the machine after that many figures and frames
+abbrev pub state : ℕ → ℕ → State
+state figures frames = record { figures = figures; frames = frames }
 
--- the machine after that many figures and harvests, at place i: Closed n after n words, the last being the end word;
+-- what a word does to it: figures come first, then a harvest for each frame; the end word holds their count
+abbrev pub stepOf : State → ℕ → Step
+stepOf s w =
+    pick (ltb (s .figures) figureCount)
+    (pick (eqb (kindOf w) figureKind) (On (state (s .figures + 1) (s .frames))) Wrong)
+    (pick (eqb (kindOf w) harvestKind)
+    (On (state (s .figures) (s .frames + 1)))
+    (pick (eqb (kindOf w) endKind) (pick (eqb (valueIn w) (s .frames)) End Wrong) Wrong))
+
+-- the machine over the words from place i on: Closed n k after n words, the last being the end word, with k frames;
 -- Broken p where word p breaks the form or is missing
-abbrev pub scan : ℕ → ℕ → ℕ → List ℕ → Form
-scan figures harvests i [] = Broken i
-scan figures harvests i (w ∷ ws) =
-    elim (roleOf figures harvests w) [
-      | Figure ↦ scan (suc figures) harvests (suc i) ws
-      | Harvest ↦ scan figures (suc harvests) (suc i) ws
-      | End ↦ Closed (suc i)
-      | Wrong ↦ Broken i
-    ]
+abbrev pub scan : State → ℕ → List ℕ → Form
+scan s i [] = Broken i
+scan s i (w ∷ ws) =
+    elim (stepOf s w) [ On t ↦ scan t (suc i) ws | End ↦ Closed (suc i) (s .frames) | Wrong ↦ Broken i ]
 
 abbrev pub formOf : List ℕ → Form
-formOf ws = scan 0 0 0 ws
+formOf ws = scan (state 0 0) 0 ws
+
+-- the place that a form names: behind the end word, or of the word that breaks the form
+abbrev pub placeIn : Form → ℕ
+placeIn (Closed words frames) = words
+placeIn (Broken p) = p
+
+-- how many frames a file of this form has
+abbrev pub framesIn : Form → ℕ
+framesIn (Closed words frames) = frames
+framesIn (Broken p) = 0

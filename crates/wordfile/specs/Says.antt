@@ -5,9 +5,9 @@ use mathlib.Core.List.{List}
 use Prim.Native.Nat.{ℕ, _≤_}
 use lib.ListN.{length, take}
 use Rattle.model.specs.Choice.{pick}
-use Rattle.model.specs.Request.{Request, request, frameCount}
+use Rattle.model.specs.Request.{Request, frameCount}
 use Rattle.model.specs.Refusals.{Outcome, gives, refuses, outcome, isNone, none}
-use Rattle.wordfile.specs.Lent.{over}
+use Rattle.model.specs.Lent.{over}
 use Rattle.wordfile.specs.File.{requestIn, readRefusal, fileBytes, writeRefusal}
 use Rattle.wordfile.specs.declared.reader.Header.{Header}
 use Rattle.wordfile.specs.declared.reader.ReadAnswer.{ReadAnswer}
@@ -15,9 +15,9 @@ use Rattle.wordfile.specs.declared.reader.ReadAnswer.the-variants as Rea
 use Rattle.wordfile.specs.declared.writer.WriteAnswer.{WriteAnswer}
 use Rattle.wordfile.specs.declared.writer.WriteAnswer.the-variants as Write
 
--- the figures of a request before its harvests, and K
+-- the figures of a request, and K
 abbrev pub headerOf : Request → Header
-headerOf r = record { capacity = r .capacity; start = r .start; end = r .end; frames = frameCount r }
+headerOf r = record { figures = r .figures; frames = frameCount r }
 
 -- the reader's answer: a request's figures, or a refusal
 abbrev pub readSaid : ReadAnswer → Outcome Header

@@ -1,7 +1,6 @@
 // Word files: a request as 32-bit words, read into lent lists and written into a lent list of bytes.
 mod form;
 mod reader;
-mod word;
 mod writer;
 
 pub use reader::Header;

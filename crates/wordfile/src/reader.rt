@@ -1,26 +1,32 @@
-// Reading a word file: its size, its form, its frames, the lent list, and nothing else.
+// Reading a word file: what is refused is known before anything is written.
 ghost use mathlib.Core.Path.{_≡_};
-ghost use mathlib.Core.List.{map};
-ghost use Prim.Native.Nat.{_+_, _*_, _≤_};
-ghost use lib.ListN.{length, take, drop};
-ghost use Rattle.model.specs.Limits.{maxFileBytes};
-ghost use Rattle.wordfile.specs.Lent.{over};
-ghost use Rattle.wordfile.specs.Words.{valueIn, wordsOf};
-ghost use Rattle.wordfile.specs.Form.{figureCount, formOf};
+ghost use Prim.Native.Nat.{_/_, _<_, _≤_, _^_};
+ghost use lib.ListN.{length};
+ghost use Rattle.model.specs.Lent.{over};
+ghost use Rattle.model.specs.Refusals.{firstOf};
+ghost use Rattle.words.specs.Words.{wordsOf};
+ghost use Rattle.wordfile.specs.Form.{figureCount, placeIn};
+ghost use Rattle.wordfile.specs.File.{figuresIn, formRefusals, harvestsIn, readRefusal};
 ghost use Rattle.wordfile.specs.Says.{ReadSays};
+use crate::form::END;
 use crate::form::Form;
+use crate::form::HARVEST;
 use crate::form::scan;
-use crate::word::value;
-use crate::word::word_at;
+use model::Figures;
 use model::Refusal;
 use model::limits::MAX_FILE_BYTES;
 use model::limits::MAX_FRAMES;
+use request::first_of;
+use request::is_none;
+use request::refuse_if;
+use words::kind;
+use words::nth;
+use words::value;
 
-// The figures of a request before its harvests, and the number of its frames.
+// The figures of a request, and the number of its frames.
+#[repr(C)]
 pub struct Header {
-    pub capacity: u32,
-    pub start: u32,
-    pub end: u32,
+    pub figures: Figures,
     pub frames: usize,
 }
 
@@ -30,60 +36,89 @@ pub enum ReadAnswer {
     Refused(Refusal),
 }
 
-// Puts the values of the harvest words at the front of the lent list.
-fn copy_values(file: &[u8], frames: usize, harvest: &mut [u32])
-    requires { ⌜ 4 * (frames + figureCount) ≤ length (now file) ⌝ }
-    requires { ⌜ frames ≤ length (now harvest) ⌝ }
-    ensures { λ _. ⌜ now (harvest .exit) ≡ over (map valueIn (take frames (drop figureCount (wordsOf (now (file .entry)))))) (now (harvest .entry)) ⌝ }
+// What is refused of a file of this form with so many bytes, read into a list of that room.
+fn form_refusal(form: Form, bytes: usize, room: usize) -> Refusal
+    requires { ⌜ placeIn form < 2 ^ 61 ⌝ }
+    ensures { λ r. ⌜ r ≡ firstOf (formRefusals form bytes room) ⌝ }
 {
-    let mut i: usize = 0;
-    while i < frames {
-        harvest[i] = value(word_at(file, 4 * (i + 3)));
-        i += 1;
+    match form {
+        Form::Closed(words, frames) => {
+            if 4 * words < bytes {
+                return Refusal {
+                    number: 8,
+                    p: words as u64,
+                };
+            }
+            first_of(
+                refuse_if(frames > MAX_FRAMES, 2),
+                refuse_if(room < frames, 7),
+            )
+        }
+        Form::Broken(place) => Refusal {
+            number: 8,
+            p: place as u64,
+        },
     }
 }
 
-// Reads a file that closed after that many words.
-fn read_closed(file: &[u8], words: usize, harvest: &mut [u32]) -> ReadAnswer
-    requires { ⌜ formOf (wordsOf (now file)) ≡ Form.Closed words ⌝ }
-    requires { ⌜ length (now file) ≤ maxFileBytes ⌝ }
-    ensures { λ r. ⌜ ReadSays (now (file .entry)) (now (harvest .entry)) (now (harvest .exit)) r ⌝ }
+// What is refused of a file; one that is too long is not gone over.
+fn read_refusal(file: &[u8], room: usize) -> Refusal
+    ensures { λ r. ⌜ r ≡ readRefusal (now (file .entry)) room ⌝ }
 {
-    if 4 * words < file.len() {
-        return ReadAnswer::Refused(Refusal {
-            number: 8,
-            p: words as u64,
-        });
+    if file.len() > MAX_FILE_BYTES {
+        return Refusal { number: 2, p: 0 };
     }
-    let frames = words - 4;
-    if frames > MAX_FRAMES {
-        return ReadAnswer::Refused(Refusal { number: 2, p: 0 });
+    form_refusal(scan(file), file.len(), room)
+}
+
+// Puts the harvests of a file at the front of the lent list, and answers how many they are.
+fn fill(file: &[u8], harvest: &mut [u32]) -> usize
+    requires { ⌜ length (harvestsIn (wordsOf (now file))) ≤ length (now harvest) ⌝ }
+    ensures list { λ _. ⌜ now (harvest .exit) ≡ over (harvestsIn (wordsOf (now (file .entry))))
+        (now (harvest .entry)) ⌝ }
+    ensures count { λ r. ⌜ r ≡ length (harvestsIn (wordsOf (now (file .entry)))) ⌝ }
+{
+    let n = file.len() / 4;
+    let mut frames: usize = 0;
+    let mut i: usize = 0;
+    while i < n {
+        let word = nth(file, i);
+        let k = kind(word);
+        if k == END {
+            return frames;
+        }
+        if k == HARVEST {
+            harvest[frames] = value(word);
+            frames += 1;
+        }
+        i += 1;
     }
-    if harvest.len() < frames {
-        return ReadAnswer::Refused(Refusal { number: 7, p: 0 });
+    frames
+}
+
+// The figures of a file.
+fn figures_in(file: &[u8]) -> Figures
+    requires { ⌜ figureCount ≤ length (now file) / 4 ⌝ }
+    ensures { λ r. ⌜ r ≡ figuresIn (wordsOf (now (file .entry))) ⌝ }
+{
+    Figures {
+        capacity: value(nth(file, 0)),
+        start: value(nth(file, 1)),
+        end: value(nth(file, 2)),
     }
-    copy_values(file, frames, harvest);
-    ReadAnswer::Accepted(Header {
-        capacity: value(word_at(file, 0)),
-        start: value(word_at(file, 4)),
-        end: value(word_at(file, 8)),
-        frames: frames,
-    })
 }
 
 // Reads a file: the harvests go to the front of the lent list, the other figures into the answer.
 pub fn read(file: &[u8], harvest: &mut [u32]) -> ReadAnswer
     ensures { λ r. ⌜ ReadSays (now (file .entry)) (now (harvest .entry)) (now (harvest .exit)) r ⌝ }
 {
-    if file.len() > MAX_FILE_BYTES {
-        return ReadAnswer::Refused(Refusal { number: 2, p: 0 });
+    let refusal = read_refusal(file, harvest.len());
+    if !is_none(refusal) {
+        return ReadAnswer::Refused(refusal);
     }
-    let form = scan(file);
-    match form {
-        Form::Closed(words) => read_closed(file, words, harvest),
-        Form::Broken(place) => ReadAnswer::Refused(Refusal {
-            number: 8,
-            p: place as u64,
-        }),
-    }
+    let frames = fill(file, harvest);
+    ReadAnswer::Accepted(Header {
+        figures: figures_in(file),
+        frames: frames,
+    })
 }

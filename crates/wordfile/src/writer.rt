@@ -1,20 +1,26 @@
-// Writing a word file: what the planner would refuse under 1 to 6 is refused, a list too short between 2 and 3.
+// Writing a word file: what is refused is known before anything is written.
 ghost use mathlib.Core.Path.{_≡_};
-ghost use mathlib.Core.List.{map};
-ghost use Prim.Native.Nat.{ℕ, _+_, _*_, _^_, _<_, _≤_};
-ghost use lib.ListN.{length, getD};
+ghost use Prim.Native.Nat.{_+_, _*_, _≤_};
+ghost use lib.ListN.{length};
+ghost use Rattle.model.specs.Lent.{over};
 ghost use Rattle.model.specs.Request.{request};
-ghost use Rattle.wordfile.specs.Lent.{over, overAt};
-ghost use Rattle.wordfile.specs.Words.{wordOf, bytesOf};
-ghost use Rattle.wordfile.specs.File.{fileBytes, writeRefusal};
+ghost use Rattle.words.specs.Puts.{Puts};
+ghost use Rattle.wordfile.specs.Form.{figureCount};
+ghost use Rattle.wordfile.specs.File.{figureWords, harvestWords, fileBytes, writeRefusal};
+ghost use Rattle.wordfile.specs.File.{FiguresFit, HarvestFits, Fits};
 ghost use Rattle.wordfile.specs.Says.{WriteSays};
-use crate::word::build;
-use crate::word::put_word;
+use crate::form::END;
+use crate::form::FIGURE;
+use crate::form::FIGURE_COUNT;
+use crate::form::HARVEST;
+use model::Figures;
 use model::Refusal;
 use request::figures_refusal;
 use request::first_of;
 use request::frames_refusal;
+use request::is_none;
 use request::refuse_if;
+use words::put;
 
 // What writing a file answers.
 pub enum WriteAnswer {
@@ -22,52 +28,68 @@ pub enum WriteAnswer {
     Refused(Refusal),
 }
 
-// Refusals 1, 2, 7, 3, 4, 5, 6, with a byte list of this room.
-fn write_refusal(capacity: u32, start: u32, end: u32, harvest: &[u32], room: usize) -> Refusal
-    ensures { λ r. ⌜ r ≡ writeRefusal (request capacity start end (now (harvest .entry))) room ⌝ }
+// How many bytes the file of a request asks for: the figures, a harvest for each frame, the end word.
+fn file_size(figures: Figures, harvest: &[u32]) -> usize
+    ensures { λ r. ⌜ r ≡ length (fileBytes (request figures (now (harvest .entry)))) ⌝ }
 {
-    let k = harvest.len();
-    let one = frames_refusal(k);
-    let seven = refuse_if(room < 4 * (k + 4), 7);
-    let three = figures_refusal(capacity, start, end, harvest);
-    first_of(one, first_of(seven, three))
+    4 * (FIGURE_COUNT + harvest.len() + 1)
 }
 
-// Puts a word for each harvest into the list, behind the three figures.
-fn put_harvest(harvest: &[u32], out: &mut [u8])
-    requires { ⌜ 12 + 4 * length (now harvest) ≤ length (now out) ⌝ }
-    requires { ⌜ ((i : ℕ) → getD (now harvest) i 0 < 2 ^ 30) ⌝ }
-    ensures { λ _. ⌜ now (out .exit) ≡ overAt 12 (bytesOf (map (wordOf 1) (now (harvest .entry)))) (now (out .entry)) ⌝ }
+// What is refused of a request, written into a list of this room.
+fn write_refusal(figures: Figures, harvest: &[u32], room: usize) -> Refusal
+    ensures { λ r. ⌜ r ≡ writeRefusal (request figures (now (harvest .entry))) room ⌝ }
 {
+    let frames = frames_refusal(harvest.len());
+    let short = refuse_if(room < file_size(figures, harvest), 7);
+    first_of(frames, first_of(short, figures_refusal(figures, harvest)))
+}
+
+// Puts the figures at the front of the list, and answers the place behind them.
+fn put_figures(figures: Figures, out: &mut [u8]) -> usize
+    requires { ⌜ FiguresFit figures ⌝ }
+    requires { ⌜ 4 * figureCount ≤ length (now out) ⌝ }
+    ensures { λ r. ⌜ Puts (figureWords figures) 0 (now (out .entry)) (now (out .exit)) r ⌝ }
+{
+    let capacity = put(FIGURE, figures.capacity, out, 0);
+    let start = put(FIGURE, figures.start, out, capacity);
+    put(FIGURE, figures.end, out, start)
+}
+
+// Puts the harvests into the list from a place on, and answers the place behind them.
+fn put_harvest(harvest: &[u32], out: &mut [u8], from: usize) -> usize
+    requires { ⌜ HarvestFits (now harvest) ⌝ }
+    requires { ⌜ from + 4 * length (now harvest) ≤ length (now out) ⌝ }
+    ensures { λ r. ⌜ Puts (harvestWords (now (harvest .entry))) from (now (out .entry)) (now (out .exit)) r ⌝ }
+{
+    let mut at = from;
     let mut i: usize = 0;
     while i < harvest.len() {
-        put_word(build(1, harvest[i]), out, 12 + 4 * i);
+        at = put(HARVEST, harvest[i], out, at);
         i += 1;
     }
+    at
 }
 
-// Puts the file of a request at the front of the list.
-fn put_file(capacity: u32, start: u32, end: u32, harvest: &[u32], out: &mut [u8])
-    requires { ⌜ (capacity < 2 ^ 30) × (start < 2 ^ 30) × (end < 2 ^ 30) ⌝ }
-    requires { ⌜ ((i : ℕ) → getD (now harvest) i 0 < 2 ^ 30) ⌝ }
-    requires { ⌜ (length (now harvest) < 2 ^ 30) × (4 * (length (now harvest) + 4) ≤ length (now out)) ⌝ }
-    ensures { λ _. ⌜ now (out .exit) ≡ over (fileBytes (request capacity start end (now (harvest .entry)))) (now (out .entry)) ⌝ }
+// Puts the file of a request at the front of the list, and answers the place behind its last word.
+fn put_file(figures: Figures, harvest: &[u32], out: &mut [u8]) -> usize
+    requires { ⌜ Fits (request figures (now harvest)) ⌝ }
+    requires { ⌜ length (fileBytes (request figures (now harvest))) ≤ length (now out) ⌝ }
+    ensures list { λ _. ⌜ now (out .exit) ≡ over (fileBytes (request figures (now (harvest .entry))))
+        (now (out .entry)) ⌝ }
+    ensures behind { λ r. ⌜ r ≡ length (fileBytes (request figures (now (harvest .entry)))) ⌝ }
 {
-    put_word(build(0, capacity), out, 0);
-    put_word(build(0, start), out, 4);
-    put_word(build(0, end), out, 8);
-    put_harvest(harvest, out);
-    put_word(build(3, harvest.len() as u32), out, 12 + 4 * harvest.len());
+    let first = put_figures(figures, out);
+    let last = put_harvest(harvest, out, first);
+    put(END, harvest.len() as u32, out, last)
 }
 
-// Writes the file of a request to the front of the lent list, and answers its length.
-pub fn write(capacity: u32, start: u32, end: u32, harvest: &[u32], out: &mut [u8]) -> WriteAnswer
-    ensures { λ r. ⌜ WriteSays (request capacity start end (now (harvest .entry))) (now (out .entry)) (now (out .exit)) r ⌝ }
+// Writes the file of a request to the front of the lent list, and answers the length of the words written.
+pub fn write(figures: Figures, harvest: &[u32], out: &mut [u8]) -> WriteAnswer
+    ensures { λ r. ⌜ WriteSays (request figures (now (harvest .entry))) (now (out .entry)) (now (out .exit)) r ⌝ }
 {
-    let refusal = write_refusal(capacity, start, end, harvest, out.len());
-    if refusal.number != 0 {
+    let refusal = write_refusal(figures, harvest, out.len());
+    if !is_none(refusal) {
         return WriteAnswer::Refused(refusal);
     }
-    put_file(capacity, start, end, harvest, out);
-    WriteAnswer::Written(4 * (harvest.len() + 4))
+    WriteAnswer::Written(put_file(figures, harvest, out))
 }

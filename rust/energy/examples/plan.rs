@@ -21,7 +21,7 @@ fn run() -> Result<(), Refusal> {
 
     Linked.plan(figures, &harvest, &mut budgets)?;
     print_budgets("plan", &budgets);
-    println!("needed: {}", Linked.needed(figures.start, figures.end, &harvest)?);
+    println!("needed: {}", Linked.needed(figures, &harvest)?);
 
     let shift = Linked.shift_start(figures, &harvest)?;
     let shift = Linked.shift_record(shift, 1, 3)?;

@@ -3,12 +3,7 @@
 use crate::refusal::Refusal;
 
 /// Capacity, start charge and end charge of a request; its harvests are a list beside it, one per frame.
-#[derive(Clone, Copy, Debug, PartialEq, Eq)]
-pub struct Figures {
-    pub capacity: u32,
-    pub start: u32,
-    pub end: u32,
-}
+pub use crate::raw::EnergyFigures as Figures;
 
 /// The tracer's verdict on a supplied list of budgets.
 #[derive(Clone, Copy, Debug, PartialEq, Eq)]
@@ -31,8 +26,17 @@ pub enum Rest {
     },
 }
 
-/// A shift's record: K, frames recorded, capacity, start and end charge, present charge, and the totals so far.
+/// A shift's record: its terms, which stay, and how it stands now.
 pub use crate::raw::EnergyShift as Shift;
+
+/// What a shift was started with: K, capacity, start and end charge.
+pub use crate::raw::EnergyTerms as Terms;
+
+/// How a shift stands: frames recorded, present charge, and the totals so far.
+pub use crate::raw::EnergyPresent as Present;
+
+/// What was harvested, used and lost in the frames recorded.
+pub use crate::raw::EnergyTotals as Totals;
 
 /// A recording that was refused: the refusal, and the shift as it was given.
 #[derive(Clone, Copy, Debug, PartialEq, Eq)]
@@ -47,9 +51,5 @@ impl From<NotRecorded> for Refusal {
     }
 }
 
-/// What a word file holds besides its harvests.
-#[derive(Clone, Copy, Debug, PartialEq, Eq)]
-pub struct FileRead {
-    pub figures: Figures,
-    pub frames: u32,
-}
+/// What a word file holds besides its harvests: the figures, and how many harvests there are.
+pub use crate::raw::EnergyHeader as Header;

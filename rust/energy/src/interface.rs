@@ -1,6 +1,6 @@
 //! The public calls of the planner as one trait, so that every implementation is tested in the same way.
 
-use crate::answers::{Figures, FileRead, NotRecorded, Rest, Shift, Verdict};
+use crate::answers::{Figures, Header, NotRecorded, Rest, Shift, Verdict};
 use crate::refusal::Refusal;
 
 /// Document 01's entries. A lent list is altered only where the call is accepted.
@@ -11,8 +11,8 @@ pub trait Energy {
     /// Writes the plan into the budgets.
     fn plan(&self, figures: Figures, harvest: &[u32], budgets: &mut [u32]) -> Result<(), Refusal>;
 
-    /// The needed capacity.
-    fn needed(&self, start: u32, end: u32, harvest: &[u32]) -> Result<u64, Refusal>;
+    /// The needed capacity; the capacity of the figures plays no part.
+    fn needed(&self, figures: Figures, harvest: &[u32]) -> Result<u64, Refusal>;
 
     /// Writes the charge after each frame, and judges the budgets.
     fn trace(
@@ -39,7 +39,7 @@ pub trait Energy {
     fn shift_rest_part<'a>(&self, shift: Shift, budgets: &'a [u32]) -> Result<&'a [u32], Refusal>;
 
     /// Reads a word file; harvests beyond its count keep their values.
-    fn read(&self, file: &[u8], harvest: &mut [u32]) -> Result<FileRead, Refusal>;
+    fn read(&self, file: &[u8], harvest: &mut [u32]) -> Result<Header, Refusal>;
 
     /// Writes a word file and gives its length; bytes beyond it keep their values.
     fn write(&self, figures: Figures, harvest: &[u32], file: &mut [u8]) -> Result<usize, Refusal>;

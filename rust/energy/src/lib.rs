@@ -8,7 +8,7 @@
 //! let mut budgets = [0; 6];
 //! Linked.plan(figures, &harvest, &mut budgets)?;
 //! assert_eq!(budgets, [4, 3, 3, 2, 4, 4]);
-//! assert_eq!(Linked.needed(figures.start, figures.end, &harvest)?, 6);
+//! assert_eq!(Linked.needed(figures, &harvest)?, 6);
 //!
 //! let refusal = Linked.plan(Figures { end: 23, ..figures }, &harvest, &mut budgets).unwrap_err();
 //! assert_eq!((refusal.number(), refusal.p()), (5, 0));
@@ -23,7 +23,7 @@ mod linked;
 mod raw;
 mod refusal;
 
-pub use answers::{Figures, FileRead, NotRecorded, Rest, Shift, Verdict};
+pub use answers::{Figures, Header, NotRecorded, Present, Rest, Shift, Terms, Totals, Verdict};
 pub use interface::Energy;
 pub use linked::Linked;
 pub use refusal::Refusal;

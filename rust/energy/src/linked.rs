@@ -1,6 +1,6 @@
 //! `libenergy.a` behind the trait `Energy`: each C function called with lists that are valid, and its answer as a Rust type.
 
-use crate::answers::{Figures, FileRead, NotRecorded, Rest, Shift, Verdict};
+use crate::answers::{Figures, Header, NotRecorded, Rest, Shift, Verdict};
 use crate::interface::Energy;
 use crate::raw;
 use crate::refusal::Refusal;
@@ -9,14 +9,25 @@ use crate::refusal::Refusal;
 #[derive(Clone, Copy, Debug)]
 pub struct Linked;
 
-/// The value of an accepted answer, or its refusal. A refused answer's other fields are 0, and an accepted one's P is.
-fn accepted<T>(number: u32, p: u64, others: &[u64], value: impl FnOnce() -> T) -> Result<T, Refusal> {
+/// The refusal of an answer, or nothing if it is accepted. An accepted answer's P is 0.
+fn refused(refusal: raw::EnergyRefusal) -> Option<Refusal> {
+    let raw::EnergyRefusal { number, p } = refusal;
     if number == 0 {
         assert_eq!(p, 0, "an accepted answer has no P");
-        return Ok(value());
+        return None;
     }
-    assert!(others.iter().all(|&other| other == 0), "a refused answer has no value");
-    Err(Refusal::from_code(number, p))
+    Some(Refusal::from_code(number, p))
+}
+
+/// The values of an accepted answer, or its refusal. A refused answer's values are 0.
+fn accepted<V: Default + PartialEq>(refusal: raw::EnergyRefusal, values: V) -> Result<V, Refusal> {
+    match refused(refusal) {
+        None => Ok(values),
+        Some(refusal) => {
+            assert!(values == V::default(), "a refused answer has no values");
+            Err(refusal)
+        }
+    }
 }
 
 impl Energy for Linked {
@@ -25,26 +36,23 @@ impl Energy for Linked {
     }
 
     fn plan(&self, figures: Figures, harvest: &[u32], budgets: &mut [u32]) -> Result<(), Refusal> {
-        let Figures { capacity, start, end } = figures;
         // SAFETY: both lists are valid for their lengths, and a mutable list overlaps no other.
         let answer = unsafe {
             raw::energy_plan(
-                capacity,
-                start,
-                end,
+                figures,
                 harvest.as_ptr(),
                 harvest.len(),
                 budgets.as_mut_ptr(),
                 budgets.len(),
             )
         };
-        accepted(answer.number, answer.p, &[], || ())
+        accepted(answer.refusal, ())
     }
 
-    fn needed(&self, start: u32, end: u32, harvest: &[u32]) -> Result<u64, Refusal> {
+    fn needed(&self, figures: Figures, harvest: &[u32]) -> Result<u64, Refusal> {
         // SAFETY: the list is valid for its length.
-        let answer = unsafe { raw::energy_needed(start, end, harvest.as_ptr(), harvest.len()) };
-        accepted(answer.number, answer.p, &[answer.capacity], || answer.capacity)
+        let answer = unsafe { raw::energy_needed(figures, harvest.as_ptr(), harvest.len()) };
+        accepted(answer.refusal, answer.capacity)
     }
 
     fn trace(
@@ -54,13 +62,10 @@ impl Energy for Linked {
         budgets: &[u32],
         charges: &mut [i64],
     ) -> Result<Verdict, Refusal> {
-        let Figures { capacity, start, end } = figures;
         // SAFETY: all lists are valid for their lengths, and a mutable list overlaps no other.
         let answer = unsafe {
             raw::energy_trace(
-                capacity,
-                start,
-                end,
+                figures,
                 harvest.as_ptr(),
                 harvest.len(),
                 budgets.as_ptr(),
@@ -69,39 +74,34 @@ impl Energy for Linked {
                 charges.len(),
             )
         };
-        let others = [answer.verdict.into(), answer.frame.into()];
-        accepted(answer.number, answer.p, &others, || {
-            match (answer.verdict, answer.frame) {
-                (raw::ENERGY_FEASIBLE, 0) => Verdict::Feasible,
-                (raw::ENERGY_END_TOO_LOW, 0) => Verdict::EndTooLow,
-                (raw::ENERGY_BELOW_ZERO, frame) => Verdict::BelowZero { frame },
-                (verdict, frame) => panic!("no verdict: {verdict}, frame {frame}"),
-            }
+        accepted(answer.refusal, (answer.verdict, answer.frame)).map(|said| match said {
+            (raw::ENERGY_FEASIBLE, 0) => Verdict::Feasible,
+            (raw::ENERGY_END_TOO_LOW, 0) => Verdict::EndTooLow,
+            (raw::ENERGY_BELOW_ZERO, frame) => Verdict::BelowZero { frame },
+            (verdict, frame) => panic!("no verdict: {verdict}, frame {frame}"),
         })
     }
 
     fn grade(&self, budgets: &[u32]) -> Result<[u64; 3], Refusal> {
         // SAFETY: the list is valid for its length.
         let answer = unsafe { raw::energy_grade(budgets.as_ptr(), budgets.len()) };
-        let sums = [answer.curve0, answer.curve1, answer.curve2];
-        accepted(answer.number, answer.p, &sums, || sums)
+        accepted(answer.refusal, answer.sums).map(|sums| [sums.curve0, sums.curve1, sums.curve2])
     }
 
     fn shift_start(&self, figures: Figures, harvest: &[u32]) -> Result<Shift, Refusal> {
-        let Figures { capacity, start, end } = figures;
         // SAFETY: the list is valid for its length.
-        let answer = unsafe { raw::energy_shift_start(capacity, start, end, harvest.as_ptr(), harvest.len()) };
-        let given = u64::from(answer.number != 0 && answer.shift != Shift::default());
-        accepted(answer.number, answer.p, &[given], || answer.shift)
+        let answer = unsafe { raw::energy_shift_start(figures, harvest.as_ptr(), harvest.len()) };
+        accepted(answer.refusal, answer.shift)
     }
 
     fn shift_record(&self, shift: Shift, harvest: u32, used: u32) -> Result<Shift, NotRecorded> {
         // SAFETY: the call takes numbers alone.
         let answer = unsafe { raw::energy_shift_record(shift, harvest, used) };
-        accepted(answer.number, answer.p, &[], || answer.shift).map_err(|refusal| NotRecorded {
-            refusal,
-            shift: answer.shift,
-        })
+        let shift = answer.shift;
+        match refused(answer.refusal) {
+            None => Ok(shift),
+            Some(refusal) => Err(NotRecorded { refusal, shift }),
+        }
     }
 
     fn shift_plan_rest(&self, shift: Shift, harvest: &[u32], budgets: &mut [u32]) -> Result<Rest, Refusal> {
@@ -115,56 +115,30 @@ impl Energy for Linked {
                 budgets.len(),
             )
         };
-        let others = [answer.is_short.into(), answer.missing];
-        accepted(answer.number, answer.p, &others, || {
-            match (answer.is_short, answer.missing) {
-                (0, 0) => Rest::Planned,
-                (1, missing) => Rest::Short { missing },
-                (short, missing) => panic!("no answer about the rest: {short}, {missing}"),
-            }
+        accepted(answer.refusal, (answer.is_short, answer.missing)).map(|said| match said {
+            (0, 0) => Rest::Planned,
+            (1, missing) => Rest::Short { missing },
+            (short, missing) => panic!("no answer about the rest: {short}, {missing}"),
         })
     }
 
     fn shift_rest_part<'a>(&self, shift: Shift, budgets: &'a [u32]) -> Result<&'a [u32], Refusal> {
         // SAFETY: the list is valid for its length.
         let answer = unsafe { raw::energy_shift_rest_part(shift, budgets.as_ptr(), budgets.len()) };
-        accepted(answer.number, answer.p, &[answer.from, answer.length], || {
-            &budgets[answer.from as usize..][..answer.length as usize]
-        })
+        accepted(answer.refusal, (answer.from, answer.length)).map(|(from, length)| &budgets[from..][..length])
     }
 
-    fn read(&self, file: &[u8], harvest: &mut [u32]) -> Result<FileRead, Refusal> {
+    fn read(&self, file: &[u8], harvest: &mut [u32]) -> Result<Header, Refusal> {
         // SAFETY: both lists are valid for their lengths, and a mutable list overlaps no other.
         let answer = unsafe { raw::energy_read(file.as_ptr(), file.len(), harvest.as_mut_ptr(), harvest.len()) };
-        let raw::EnergyReadAnswer {
-            number,
-            p,
-            capacity,
-            start,
-            end,
-            frames,
-        } = answer;
-        accepted(number, p, &[capacity, start, end, frames].map(u64::from), || FileRead {
-            figures: Figures { capacity, start, end },
-            frames,
-        })
+        accepted(answer.refusal, answer.header)
     }
 
     fn write(&self, figures: Figures, harvest: &[u32], file: &mut [u8]) -> Result<usize, Refusal> {
-        let Figures { capacity, start, end } = figures;
         // SAFETY: both lists are valid for their lengths, and a mutable list overlaps no other.
-        let answer = unsafe {
-            raw::energy_write(
-                capacity,
-                start,
-                end,
-                harvest.as_ptr(),
-                harvest.len(),
-                file.as_mut_ptr(),
-                file.len(),
-            )
-        };
-        accepted(answer.number, answer.p, &[answer.bytes], || answer.bytes as usize)
+        let answer =
+            unsafe { raw::energy_write(figures, harvest.as_ptr(), harvest.len(), file.as_mut_ptr(), file.len()) };
+        accepted(answer.refusal, answer.bytes)
     }
 
     fn listing(&self, file: &[u8], text: &mut [u8]) -> usize {

@@ -4,98 +4,123 @@ pub const ENERGY_MAX_FRAMES: u32 = 2976;
 pub const ENERGY_MAX_FILE_BYTES: u32 = 11920;
 pub const ENERGY_MAX_CAPACITY: u32 = 1000000000;
 pub const ENERGY_MAX_HARVEST: u32 = 400000;
-pub const ENERGY_LISTING_BYTES: u32 = 81920;
+pub const ENERGY_LISTING_BYTES: u32 = 80444;
 pub const ENERGY_FEASIBLE: u32 = 0;
 pub const ENERGY_END_TOO_LOW: u32 = 1;
 pub const ENERGY_BELOW_ZERO: u32 = 2;
 #[repr(C)]
 #[derive(Debug, Default, Copy, Clone, PartialEq, Eq)]
-pub struct EnergyPlanAnswer {
+pub struct EnergyFigures {
+    pub capacity: u32,
+    pub start: u32,
+    pub end: u32,
+}
+#[repr(C)]
+#[derive(Debug, Default, Copy, Clone, PartialEq, Eq)]
+pub struct EnergyRefusal {
     pub number: u32,
     pub p: u64,
 }
 #[repr(C)]
 #[derive(Debug, Default, Copy, Clone, PartialEq, Eq)]
+pub struct EnergyPlanAnswer {
+    pub refusal: EnergyRefusal,
+}
+#[repr(C)]
+#[derive(Debug, Default, Copy, Clone, PartialEq, Eq)]
 pub struct EnergyNeededAnswer {
-    pub number: u32,
-    pub p: u64,
+    pub refusal: EnergyRefusal,
     pub capacity: u64,
 }
 #[repr(C)]
 #[derive(Debug, Default, Copy, Clone, PartialEq, Eq)]
 pub struct EnergyTraceAnswer {
-    pub number: u32,
-    pub p: u64,
+    pub refusal: EnergyRefusal,
     pub verdict: u32,
     pub frame: u32,
 }
 #[repr(C)]
 #[derive(Debug, Default, Copy, Clone, PartialEq, Eq)]
-pub struct EnergyGradeAnswer {
-    pub number: u32,
-    pub p: u64,
+pub struct EnergySums {
     pub curve0: u64,
     pub curve1: u64,
     pub curve2: u64,
 }
 #[repr(C)]
 #[derive(Debug, Default, Copy, Clone, PartialEq, Eq)]
-pub struct EnergyShift {
+pub struct EnergyGradeAnswer {
+    pub refusal: EnergyRefusal,
+    pub sums: EnergySums,
+}
+#[repr(C)]
+#[derive(Debug, Default, Copy, Clone, PartialEq, Eq)]
+pub struct EnergyTerms {
     pub frames: u32,
-    pub recorded: u32,
     pub capacity: u32,
     pub start: u32,
     pub end: u32,
-    pub charge: u32,
+}
+#[repr(C)]
+#[derive(Debug, Default, Copy, Clone, PartialEq, Eq)]
+pub struct EnergyTotals {
     pub harvested: u64,
     pub used: u64,
     pub lost: u64,
 }
 #[repr(C)]
 #[derive(Debug, Default, Copy, Clone, PartialEq, Eq)]
+pub struct EnergyPresent {
+    pub recorded: u32,
+    pub charge: u32,
+    pub totals: EnergyTotals,
+}
+#[repr(C)]
+#[derive(Debug, Default, Copy, Clone, PartialEq, Eq)]
+pub struct EnergyShift {
+    pub terms: EnergyTerms,
+    pub now: EnergyPresent,
+}
+#[repr(C)]
+#[derive(Debug, Default, Copy, Clone, PartialEq, Eq)]
 pub struct EnergyShiftAnswer {
-    pub number: u32,
-    pub p: u64,
+    pub refusal: EnergyRefusal,
     pub shift: EnergyShift,
 }
 #[repr(C)]
 #[derive(Debug, Default, Copy, Clone, PartialEq, Eq)]
 pub struct EnergyRestAnswer {
-    pub number: u32,
-    pub p: u64,
+    pub refusal: EnergyRefusal,
     pub is_short: u32,
     pub missing: u64,
 }
 #[repr(C)]
 #[derive(Debug, Default, Copy, Clone, PartialEq, Eq)]
 pub struct EnergyPartAnswer {
-    pub number: u32,
-    pub p: u64,
-    pub from: u64,
-    pub length: u64,
+    pub refusal: EnergyRefusal,
+    pub from: usize,
+    pub length: usize,
+}
+#[repr(C)]
+#[derive(Debug, Default, Copy, Clone, PartialEq, Eq)]
+pub struct EnergyHeader {
+    pub figures: EnergyFigures,
+    pub frames: usize,
 }
 #[repr(C)]
 #[derive(Debug, Default, Copy, Clone, PartialEq, Eq)]
 pub struct EnergyReadAnswer {
-    pub number: u32,
-    pub p: u64,
-    pub capacity: u32,
-    pub start: u32,
-    pub end: u32,
-    pub frames: u32,
+    pub refusal: EnergyRefusal,
+    pub header: EnergyHeader,
 }
 #[repr(C)]
 #[derive(Debug, Default, Copy, Clone, PartialEq, Eq)]
 pub struct EnergyWriteAnswer {
-    pub number: u32,
-    pub p: u64,
-    pub bytes: u64,
+    pub refusal: EnergyRefusal,
+    pub bytes: usize,
 }
 extern "C" {
     pub fn energy_plan(
-        capacity: u32,
-        start: u32,
-        end: u32,
+        figures: EnergyFigures,
         harvest: *const u32,
         harvest_length: usize,
         budgets: *mut u32,
@@ -103,13 +128,11 @@ extern "C" {
     ) -> EnergyPlanAnswer;
 }
 extern "C" {
-    pub fn energy_needed(start: u32, end: u32, harvest: *const u32, harvest_length: usize) -> EnergyNeededAnswer;
+    pub fn energy_needed(figures: EnergyFigures, harvest: *const u32, harvest_length: usize) -> EnergyNeededAnswer;
 }
 extern "C" {
     pub fn energy_trace(
-        capacity: u32,
-        start: u32,
-        end: u32,
+        figures: EnergyFigures,
         harvest: *const u32,
         harvest_length: usize,
         budgets: *const u32,
@@ -122,13 +145,7 @@ extern "C" {
     pub fn energy_grade(budgets: *const u32, budgets_length: usize) -> EnergyGradeAnswer;
 }
 extern "C" {
-    pub fn energy_shift_start(
-        capacity: u32,
-        start: u32,
-        end: u32,
-        harvest: *const u32,
-        harvest_length: usize,
-    ) -> EnergyShiftAnswer;
+    pub fn energy_shift_start(figures: EnergyFigures, harvest: *const u32, harvest_length: usize) -> EnergyShiftAnswer;
 }
 extern "C" {
     pub fn energy_shift_record(shift: EnergyShift, harvest: u32, used: u32) -> EnergyShiftAnswer;
@@ -155,9 +172,7 @@ extern "C" {
 }
 extern "C" {
     pub fn energy_write(
-        capacity: u32,
-        start: u32,
-        end: u32,
+        figures: EnergyFigures,
         harvest: *const u32,
         harvest_length: usize,
         file: *mut u8,

@@ -8,15 +8,15 @@ use std::fmt;
 pub enum Refusal {
     /// 1: no frames.
     NoFrames,
-    /// 2: more than 2,976 frames, or a file above 11,920 bytes.
+    /// 2: more than [`MAX_FRAMES`] frames, or a file above [`MAX_FILE_BYTES`].
     TooLong,
-    /// 3: capacity above 1,000,000,000; for the needed capacity, start or end above it.
+    /// 3: capacity above [`MAX_CAPACITY`]; for the needed capacity, start or end above it.
     CapacityOverLimit,
     /// 4: start above capacity.
     StartAboveCapacity,
     /// 5: end above capacity.
     EndAboveCapacity,
-    /// 6: a harvest above 400,000, at the earliest such frame.
+    /// 6: a harvest above [`MAX_HARVEST`], at the earliest such frame.
     HarvestOverLimit { frame: u64 },
     /// 7: a lent list whose length is not K, or one too short for the word file.
     WrongLength,

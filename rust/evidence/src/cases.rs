@@ -1,6 +1,6 @@
 //! A case is one call, or one shift with its calls, with everything that it depends on; it prints as text and is read back.
 
-use energy::{Figures, Shift};
+use energy::{Figures, Present, Shift, Terms, Totals};
 use std::fmt;
 use std::str::FromStr;
 
@@ -24,8 +24,7 @@ pub enum Case {
         budgets: usize,
     },
     Needed {
-        start: u32,
-        end: u32,
+        figures: Figures,
         harvest: Vec<u32>,
     },
     Trace {
@@ -98,20 +97,22 @@ struct Nine<'a>(&'a Shift);
 
 impl fmt::Display for Nine<'_> {
     fn fmt(&self, f: &mut fmt::Formatter<'_>) -> fmt::Result {
-        let Shift {
+        let Shift { terms, now } = self.0;
+        let Terms {
             frames,
-            recorded,
             capacity,
             start,
             end,
+        } = terms;
+        let Present {
+            recorded,
             charge,
-            harvested,
-            used,
-            lost,
-        } = self.0;
+            totals,
+        } = now;
+        let Totals { harvested, used, lost } = totals;
         write!(
             f,
-            "{frames} {recorded} {capacity} {start} {end} {charge} {harvested} {used} {lost}"
+            "{frames} {capacity} {start} {end} {recorded} {charge} {harvested} {used} {lost}"
         )
     }
 }
@@ -134,7 +135,7 @@ impl fmt::Display for Case {
                 harvest,
                 budgets,
             } => write!(f, "plan {} {} {budgets}", Three(figures), List(harvest)),
-            Case::Needed { start, end, harvest } => write!(f, "needed {start} {end} {}", List(harvest)),
+            Case::Needed { figures, harvest } => write!(f, "needed {} {}", Three(figures), List(harvest)),
             Case::Trace {
                 figures,
                 harvest,
@@ -200,15 +201,21 @@ impl<'a> Words<'a> {
 
     fn shift(&mut self) -> Result<Shift, String> {
         Ok(Shift {
-            frames: self.number()?,
-            recorded: self.number()?,
-            capacity: self.number()?,
-            start: self.number()?,
-            end: self.number()?,
-            charge: self.number()?,
-            harvested: self.number()?,
-            used: self.number()?,
-            lost: self.number()?,
+            terms: Terms {
+                frames: self.number()?,
+                capacity: self.number()?,
+                start: self.number()?,
+                end: self.number()?,
+            },
+            now: Present {
+                recorded: self.number()?,
+                charge: self.number()?,
+                totals: Totals {
+                    harvested: self.number()?,
+                    used: self.number()?,
+                    lost: self.number()?,
+                },
+            },
         })
     }
 
@@ -267,8 +274,7 @@ impl<'a> Words<'a> {
                 budgets: self.number()?,
             },
             "needed" => Case::Needed {
-                start: self.number()?,
-                end: self.number()?,
+                figures: self.figures()?,
                 harvest: self.list()?,
             },
             "trace" => Case::Trace {
@@ -326,14 +332,14 @@ mod tests {
     fn a_printed_case_is_read_back() {
         for text in [
             "plan 5 2 2 [6 4 0 0 5 5] 6",
-            "needed 2 2 []",
+            "needed 5 2 2 []",
             "trace 22 2 2 [6 4] [4 4] 2",
             "grade [4294967295]",
             "run 5 2 2 [6 4] record 1 3 rest [6 4] 2 part 2",
-            "on 6 0 5 2 2 2 0 0 18446744073709551615 record 1 3",
+            "on 6 5 2 2 0 2 0 0 18446744073709551615 record 1 3",
             "read x0900000000 3",
             "write 9 0 0 [1 2] 24",
-            "listing x 81920",
+            "listing x 99",
         ] {
             let case: Case = text.parse().expect(text);
             assert_eq!(case.to_string(), text);

@@ -36,10 +36,10 @@ pub fn check(energy: &dyn Energy, case: &Case) -> Checked {
             |energy, budgets| energy.plan(*figures, harvest, budgets),
             "plan",
         ),
-        Case::Needed { start, end, harvest } => same(
+        Case::Needed { figures, harvest } => same(
             "needed",
-            energy.needed(*start, *end, harvest),
-            Reference.needed(*start, *end, harvest),
+            energy.needed(*figures, harvest),
+            Reference.needed(*figures, harvest),
         ),
         Case::Trace {
             figures,
@@ -116,7 +116,7 @@ fn check_write(energy: &dyn Energy, figures: Figures, harvest: &[u32], room: usi
         .read(&file[..length], &mut back)
         .map_err(|refusal| format!("reads back: {refusal}"))?;
     same("figures read back", read.figures, figures)?;
-    same("frames read back", read.frames as usize, harvest.len())?;
+    same("frames read back", read.frames, harvest.len())?;
     same("harvests read back", &back[..harvest.len()], harvest)?;
     same("surplus", &back[harvest.len()..], &[OLD_BUDGET; 3])
 }

@@ -1,11 +1,17 @@
 //! Document 01's entries by guess, certify, follow, the rest as in the reference: the baseline for speed.
 
 use crate::algorithms::certificate;
+use crate::reference::charge::Store;
 use crate::reference::{listing, refusals, shift, Reference};
-use energy::{Energy, Figures, FileRead, NotRecorded, Refusal, Rest, Shift, Verdict};
+use energy::{Energy, Figures, Header, NotRecorded, Refusal, Rest, Shift, Verdict};
 
 /// The fast implementation in Rust.
 pub struct Fast;
+
+/// The plan as a list.
+fn plan(store: Store, harvest: &[u32]) -> Vec<u32> {
+    certificate::plan(store.capacity, store.start, store.end, harvest)
+}
 
 impl Energy for Fast {
     fn name(&self) -> &'static str {
@@ -24,9 +30,9 @@ impl Energy for Fast {
         Ok(())
     }
 
-    fn needed(&self, start: u32, end: u32, harvest: &[u32]) -> Result<u64, Refusal> {
-        refusals::needed(start, end, harvest)?;
-        Ok(certificate::needed(start.into(), end.into(), harvest))
+    fn needed(&self, figures: Figures, harvest: &[u32]) -> Result<u64, Refusal> {
+        refusals::needed(figures, harvest)?;
+        Ok(certificate::needed(figures.start.into(), figures.end.into(), harvest))
     }
 
     fn trace(
@@ -52,14 +58,14 @@ impl Energy for Fast {
     }
 
     fn shift_plan_rest(&self, shift: Shift, harvest: &[u32], budgets: &mut [u32]) -> Result<Rest, Refusal> {
-        shift::plan_rest(shift, harvest, budgets, certificate::plan)
+        shift::plan_rest(shift, harvest, budgets, plan)
     }
 
     fn shift_rest_part<'a>(&self, shift: Shift, budgets: &'a [u32]) -> Result<&'a [u32], Refusal> {
         Reference.shift_rest_part(shift, budgets)
     }
 
-    fn read(&self, file: &[u8], harvest: &mut [u32]) -> Result<FileRead, Refusal> {
+    fn read(&self, file: &[u8], harvest: &mut [u32]) -> Result<Header, Refusal> {
         Reference.read(file, harvest)
     }
 

@@ -3,9 +3,10 @@
 use crate::cases::{Call, Case};
 use crate::families::{Family, FAMILIES};
 use crate::random::Random;
-use crate::reference::limits::{LISTING_BYTES, MAX_CAPACITY, MAX_FILE_BYTES, MAX_FRAMES, MAX_HARVEST};
+use crate::reference::limits::{MAX_CAPACITY, MAX_FILE_BYTES, MAX_FRAMES, MAX_HARVEST};
+use crate::reference::wordfile::file_bytes;
 use crate::reference::Reference;
-use energy::{Energy, Figures, Shift};
+use energy::{Energy, Figures, Present, Shift, Terms, Totals, LISTING_BYTES};
 
 /// How many frames: mostly few, now and then a day, seldom at the limit.
 fn frames(random: &mut Random) -> usize {
@@ -109,7 +110,7 @@ fn budgets(figures: Figures, harvest: &[u32], random: &mut Random) -> Vec<u32> {
 
 /// A call on a shift's record, given the harvests that it was started from.
 fn call(shift: &Shift, lent: &[u32], random: &mut Random) -> Call {
-    let next = lent.get(shift.recorded as usize).copied().unwrap_or(0);
+    let next = lent.get(shift.now.recorded as usize).copied().unwrap_or(0);
     match random.up_to(9) {
         0..=2 => {
             let mut harvest = lent.to_vec();
@@ -131,7 +132,7 @@ fn call(shift: &Shift, lent: &[u32], random: &mut Random) -> Call {
                 1 | 2 => random.up_to_u32(next.saturating_mul(2).min(MAX_HARVEST)),
                 _ => next,
             };
-            let have = u64::from(shift.charge) + u64::from(harvest);
+            let have = u64::from(shift.now.charge) + u64::from(harvest);
             let used = match random.up_to(9) {
                 0 => have + random.up_to(2),
                 1 => random.bits() & 0xffff_ffff,
@@ -176,7 +177,7 @@ fn on(random: &mut Random) -> Case {
         .shift_start(figures, &harvest)
         .unwrap_or_else(|_| balanced(&harvest, random));
     for &h in harvest.iter().take(random.up_to(harvest.len() as u64) as usize) {
-        let used = random.up_to(u64::from(shift.charge) + u64::from(h)) as u32;
+        let used = random.up_to(u64::from(shift.now.charge) + u64::from(h)) as u32;
         shift = Reference.shift_record(shift, h, used).unwrap_or(shift);
     }
     match random.up_to(3) {
@@ -193,19 +194,21 @@ fn change(shift: &mut Shift, random: &mut Random) {
     let small = random.up_to_u32(3_000);
     let any = *random.pick(&[0, 1, small, MAX_CAPACITY, MAX_CAPACITY + 1, u32::MAX]);
     let wide = *random.pick(&[0, 1, u64::from(any), u64::MAX, u64::MAX - u64::from(any), 1 << 63]);
+    let Shift { terms, now } = shift;
+    let totals = &mut now.totals;
     match random.up_to(9) {
-        0 => shift.frames = any,
-        1 => shift.recorded = any,
-        2 => shift.capacity = any,
-        3 => shift.start = any,
-        4 => shift.end = any,
-        5 => shift.charge = any,
-        6 => shift.harvested = wide,
-        7 => shift.used = wide,
-        8 => shift.lost = wide,
+        0 => terms.frames = any,
+        1 => now.recorded = any,
+        2 => terms.capacity = any,
+        3 => terms.start = any,
+        4 => terms.end = any,
+        5 => now.charge = any,
+        6 => totals.harvested = wide,
+        7 => totals.used = wide,
+        8 => totals.lost = wide,
         _ => {
-            shift.used = shift.used.wrapping_add(wide);
-            shift.lost = shift.lost.wrapping_sub(wide);
+            totals.used = totals.used.wrapping_add(wide);
+            totals.lost = totals.lost.wrapping_sub(wide);
         }
     }
 }
@@ -221,16 +224,23 @@ fn balanced(harvest: &[u32], random: &mut Random) -> Shift {
     let harvested = least + random.up_to(u64::from(MAX_HARVEST) * u64::from(recorded));
     let gone = u64::from(start) + harvested - u64::from(charge);
     let used = random.up_to(gone);
-    Shift {
-        frames,
-        recorded,
-        capacity,
-        start,
-        end: random.up_to_u32(capacity),
-        charge,
+    let totals = Totals {
         harvested,
         used,
         lost: gone - used,
+    };
+    Shift {
+        terms: Terms {
+            frames,
+            capacity,
+            start,
+            end: random.up_to_u32(capacity),
+        },
+        now: Present {
+            recorded,
+            charge,
+            totals,
+        },
     }
 }
 
@@ -334,11 +344,7 @@ fn planning(random: &mut Random) -> Case {
     let harvest = harvest(frames(random), random);
     let figures = figures(&harvest, random);
     if random.one_in(4) {
-        return Case::Needed {
-            start: figures.start,
-            end: figures.end,
-            harvest,
-        };
+        return Case::Needed { figures, harvest };
     }
     Case::Plan {
         figures,
@@ -367,7 +373,7 @@ fn plain(random: &mut Random) -> Case {
             budgets: budgets(figures, &harvest, random),
         },
         _ => Case::Write {
-            room: room(4 * (frames + 4), random),
+            room: room(file_bytes(frames), random),
             figures,
             harvest,
         },

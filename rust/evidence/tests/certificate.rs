@@ -7,6 +7,8 @@ use evidence::algorithms::certificate::sight::{draw_by_sight, first_apex, ALLOWA
 use evidence::algorithms::certificate::{by_split, by_string, needed, plan_frames, Counters, Scratch};
 use evidence::families::{full, request, Family, Size, FAMILIES, SIZES};
 use evidence::random::{seed, Random};
+use evidence::reference::charge::Store;
+use evidence::reference::limits::MAX_FRAMES;
 use evidence::reference::needed::needed as defined_needed;
 use std::fmt::Debug;
 
@@ -301,14 +303,16 @@ fn small_requests_of_document_01_against_the_definition() {
         let harvest = random.list(frames, most);
         let plain = plain(most, &harvest, &mut random);
         let frames = (0..frames).map(|i| plain.at(i)).collect();
-        let Plain { start, end, .. } = plain;
+        let Plain {
+            capacity, start, end, ..
+        } = plain;
         assert_eq!(
             seen.plain_plan(plain),
             defined(&Listed { start, end, frames }),
             "{plain:?}"
         );
-        let capacity = defined_needed(start, end, &harvest);
-        assert_eq!(needed(start, end, &harvest), capacity, "{plain:?}");
+        let least = defined_needed(Store { capacity, start, end }, &harvest);
+        assert_eq!(needed(start, end, &harvest), least, "{plain:?}");
     }
     assert_eq!(seen.guesses.split, 0, "a string was not certified");
     seen.close("small requests of document 01");
@@ -317,7 +321,7 @@ fn small_requests_of_document_01_against_the_definition() {
 #[test]
 fn families_and_sizes() {
     let mut seen = Seen::default();
-    for frames in [1, 2, 96, 336, 672, 2_976] {
+    for frames in [1, 2, 96, 336, 672, MAX_FRAMES] {
         for most in [7, 1_000, 400_000] {
             for (i, family) in FAMILIES.into_iter().enumerate() {
                 for size in SIZES {
@@ -353,7 +357,7 @@ fn strings_are_drawn_by_sight_and_by_the_funnel() {
         (Family::Falling, false),
         (Family::Staircase, false),
     ] {
-        assert_eq!(is_in_sight(family, Size::Small, 2_976), seen, "{}", family.name());
+        assert_eq!(is_in_sight(family, Size::Small, MAX_FRAMES), seen, "{}", family.name());
     }
 }
 
@@ -362,7 +366,7 @@ fn large_requests_of_document_01() {
     let mut seen = Seen::default();
     for case in 0..500 {
         let mut random = Random::of_case(seed(), 11_000_000 + case);
-        let frames = 1 + random.up_to(2_975) as usize;
+        let frames = 1 + random.up_to(MAX_FRAMES as u64 - 1) as usize;
         let most = *random.pick(&[2, 50, 1_000, 400_000]);
         let harvest = random.pick(&FAMILIES).harvest(frames, most, &mut random);
         seen.plain_plan(plain(most, &harvest, &mut random));
@@ -376,10 +380,10 @@ fn large_general_requests() {
     let mut seen = Seen::default();
     for case in 0..2_000 {
         let mut random = Random::of_case(seed(), 10_000_000 + case);
-        let frames = *random.pick(&[96, 336, 672, 2_976]);
+        let frames = *random.pick(&[96, 336, 672, MAX_FRAMES]);
         let request = large(frames, &mut random);
         let plan = seen.plan(&request);
-        if frames < 2_976 && case % 4 == 0 {
+        if frames < MAX_FRAMES && case % 4 == 0 {
             assert_eq!(plan, searched(&request), "case {case}");
         }
     }

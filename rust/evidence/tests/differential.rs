@@ -1,11 +1,10 @@
 //! Random cases through every implementation, compared with the reference. Another seed: `ENERGY_SEED=7 rust/cargo test`.
 
-use energy::{Energy, Refusal, Rest, Verdict};
+use energy::{Energy, Refusal, Rest, Verdict, LISTING_BYTES};
 use evidence::cases::{Call, Case};
 use evidence::check::expect;
 use evidence::generate::{any_case, any_file_case, any_run};
 use evidence::random::{seed, Random};
-use evidence::reference::limits::LISTING_BYTES;
 use evidence::reference::Reference;
 use evidence::under_test;
 use std::collections::BTreeSet;
@@ -48,10 +47,8 @@ fn answer(case: &Case) -> Vec<String> {
         } => vec![Reference
             .plan(*figures, harvest, &mut vec![0; *budgets])
             .map_or_else(number, |()| "ok".into())],
-        Case::Needed { start, end, harvest } => {
-            vec![Reference
-                .needed(*start, *end, harvest)
-                .map_or_else(number, |_| "ok".into())]
+        Case::Needed { figures, harvest } => {
+            vec![Reference.needed(*figures, harvest).map_or_else(number, |_| "ok".into())]
         }
         Case::Trace {
             figures,

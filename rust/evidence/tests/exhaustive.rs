@@ -2,7 +2,7 @@
 
 use energy::{Figures, Refusal};
 use evidence::random::{seed, Random};
-use evidence::reference::charge::{feasible, walk};
+use evidence::reference::charge::{feasible, walk, FrameEnd, Store};
 use evidence::reference::exhaustive::{feasible_assignments, most_energy, needed, plan};
 use evidence::reference::tables::{all_tables, level_table, Table};
 use evidence::reference::{needed as needs, plan as plans, refusals};
@@ -42,8 +42,8 @@ fn plans_are_named_by_all_levels(cases: std::ops::Range<u64>, frames: u64, energ
     for case in cases {
         let (figures, harvest) = small_request(&mut Random::of_case(seed(), case), frames, energy);
         let case = named(figures, &harvest, case);
-        let (capacity, start, end) = (figures.capacity.into(), figures.start.into(), figures.end.into());
-        let all = feasible_assignments(capacity, start, end, &harvest);
+        let store = Store::from(figures);
+        let all = feasible_assignments(store, &harvest);
         let reached = refusals::plan(figures, &harvest, harvest.len());
         assert_eq!(
             reached.is_ok(),
@@ -55,16 +55,8 @@ fn plans_are_named_by_all_levels(cases: std::ops::Range<u64>, frames: u64, energ
         } else {
             let named = plan(&all, &levels(most_energy(figures, &harvest)));
             let named = named.unwrap_or_else(|| panic!("one assignment serves most at every level: {case}"));
-            assert_eq!(
-                plans::by_filling(capacity, start, end, &harvest),
-                named,
-                "filling: {case}"
-            );
-            assert_eq!(
-                plans::by_reserve(capacity, start, end, &harvest),
-                named,
-                "reserve: {case}"
-            );
+            assert_eq!(plans::by_filling(store, &harvest), named, "filling: {case}");
+            assert_eq!(plans::by_reserve(store, &harvest), named, "reserve: {case}");
             named
         };
         for energy in under_test() {
@@ -98,12 +90,7 @@ fn the_plan_is_best_for_every_qualifying_table_up_to_a_size() {
             continue;
         }
         let case = named(figures, &harvest, case);
-        let all = feasible_assignments(
-            figures.capacity.into(),
-            figures.start.into(),
-            figures.end.into(),
-            &harvest,
-        );
+        let all = feasible_assignments(figures.into(), &harvest);
         let most = most_energy(figures, &harvest);
         let mut tables = all_tables(most, -2, 3);
         tables.extend(all_tables(most, 5, 1));
@@ -122,35 +109,23 @@ fn the_plan_is_best_for_every_qualifying_table_up_to_a_size() {
 fn the_needed_capacity_is_the_least_that_serves_every_table() {
     for case in 200_000..210_000 {
         let (figures, harvest) = small_request(&mut Random::of_case(seed(), case), 5, 7);
-        let Figures { start, end, .. } = figures;
+        let store = Store::from(figures);
         let case = named(figures, &harvest, case);
-        if refusals::needed(start, end, &harvest).is_err() {
+        if refusals::needed(figures, &harvest).is_err() {
             continue;
         }
         let most = most_energy(figures, &harvest);
-        let least = needed(start, end, &harvest, &levels(most));
-        assert_eq!(
-            needs::by_definition(start.into(), end.into(), &harvest),
-            least,
-            "definition: {case}"
-        );
-        let open = plans::by_filling(1_000_000, start.into(), end.into(), &harvest);
-        assert_eq!(
-            needs::by_peak(start.into(), end.into(), &harvest, &open),
-            least,
-            "peak: {case}"
-        );
+        let least = needed(store, &harvest, &levels(most));
+        assert_eq!(needs::by_definition(store, &harvest), least, "definition: {case}");
+        let capacity = 1_000_000;
+        let open = plans::by_filling(Store { capacity, ..store }, &harvest);
+        assert_eq!(needs::by_peak(store, &harvest, &open), least, "peak: {case}");
         for energy in under_test() {
-            assert_eq!(
-                energy.needed(start, end, &harvest),
-                Ok(least),
-                "{}: {case}",
-                energy.name()
-            );
+            assert_eq!(energy.needed(figures, &harvest), Ok(least), "{}: {case}", energy.name());
         }
         if most <= 7 {
             let tables = all_tables(most, 0, 3);
-            assert_eq!(needed(start, end, &harvest, &tables), least, "by every table: {case}");
+            assert_eq!(needed(store, &harvest, &tables), least, "by every table: {case}");
         }
     }
 }
@@ -159,24 +134,26 @@ fn the_needed_capacity_is_the_least_that_serves_every_table() {
 fn the_plan_wastes_nothing_and_its_charges_are_the_lowest() {
     for case in 300_000..310_000 {
         let (figures, harvest) = small_request(&mut Random::of_case(seed(), case), 5, 8);
-        let (capacity, start, end) = (figures.capacity.into(), figures.start.into(), figures.end.into());
+        let store = Store::from(figures);
         if refusals::plan(figures, &harvest, harvest.len()).is_err() {
             continue;
         }
         let case = named(figures, &harvest, case);
-        let budgets = plans::by_filling(capacity, start, end, &harvest);
-        let (charges, lost) = walk(capacity, start, &harvest, &budgets).expect("the plan is feasible");
-        assert_eq!((charges.last(), lost), (Some(&end), 0), "{case}");
+        let budgets = plans::by_filling(store, &harvest);
+        assert!(feasible(store, &harvest, &budgets), "{case}");
+        let plan: Vec<FrameEnd> = walk(store, &harvest, &budgets).collect();
+        assert_eq!(plan.last().map(|last| last.charge), Some(figures.end.into()), "{case}");
+        assert!(plan.iter().all(|after| after.lost == 0), "{case}");
         let tables = levels(most_energy(figures, &harvest));
-        for other in feasible_assignments(capacity, start, end, &harvest) {
-            assert!(feasible(capacity, start, end, &harvest, &other), "{case}");
+        for other in feasible_assignments(store, &harvest) {
+            assert!(feasible(store, &harvest, &other), "{case}");
             if tables
                 .iter()
                 .all(|table| table.earned(&other) == table.earned(&budgets))
             {
-                let (others, _) = walk(capacity, start, &harvest, &other).expect("feasible");
+                let others = walk(store, &harvest, &other);
                 assert!(
-                    charges.iter().zip(&others).all(|(a, b)| a <= b),
+                    plan.iter().zip(others).all(|(a, b)| a.charge <= b.charge),
                     "{case}, other {other:?}"
                 );
             }

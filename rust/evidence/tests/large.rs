@@ -4,6 +4,7 @@ use energy::Figures;
 use evidence::cases::Case;
 use evidence::families::{full, request, FAMILIES, FULL, SIZES};
 use evidence::random::{seed, Random};
+use evidence::reference::limits::MAX_FRAMES;
 use evidence::reference::needed::needed;
 use evidence::reference::plan::{by_filling, by_reserve};
 use evidence::reference::shift::PlanMethod;
@@ -11,9 +12,8 @@ use evidence::under_test;
 
 /// Plan and needed capacity by every implementation against an independent method.
 fn compare(figures: Figures, harvest: &[u32], method: PlanMethod) {
-    let Figures { capacity, start, end } = figures;
-    let plan = method(capacity.into(), start.into(), end.into(), harvest);
-    let capacity = needed(start.into(), end.into(), harvest);
+    let plan = method(figures.into(), harvest);
+    let capacity = needed(figures.into(), harvest);
     for energy in under_test() {
         let again = |case: Case| {
             format!(
@@ -30,11 +30,10 @@ fn compare(figures: Figures, harvest: &[u32], method: PlanMethod) {
         };
         assert!(same, "{}", again(case));
         let case = Case::Needed {
-            start,
-            end,
+            figures,
             harvest: harvest.to_vec(),
         };
-        assert!(energy.needed(start, end, harvest) == Ok(capacity), "{}", again(case));
+        assert!(energy.needed(figures, harvest) == Ok(capacity), "{}", again(case));
     }
 }
 
@@ -63,15 +62,15 @@ fn a_day_half_a_week_and_a_week() {
 
 #[test]
 fn the_longest_requests() {
-    families(2_976, 1_000, by_filling);
-    families(2_976, 400_000, by_reserve);
+    families(MAX_FRAMES, 1_000, by_filling);
+    families(MAX_FRAMES, 400_000, by_reserve);
 }
 
 #[test]
 fn random_large_requests() {
     for case in 0..40 {
         let mut random = Random::of_case(seed(), 5_000_000 + case);
-        let frames = 100 + random.up_to(2_876) as usize;
+        let frames = 100 + random.up_to(MAX_FRAMES as u64 - 100) as usize;
         let most = *random.pick(&[2, 50, 1_000, 400_000]);
         let (family, size) = (*random.pick(&FAMILIES), *random.pick(&SIZES));
         let (figures, harvest) = request(family, size, frames, most, &mut random);

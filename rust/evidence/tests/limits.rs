@@ -1,9 +1,10 @@
 //! Cases at the limits: each bound passes, and one more is refused.
 
-use energy::{Energy, Figures, Refusal, Shift};
+use energy::{Energy, Figures, Present, Refusal, Shift, Terms, Totals, LISTING_BYTES};
 use evidence::cases::{Call, Case};
 use evidence::check::expect;
 use evidence::reference::limits::{MAX_CAPACITY, MAX_FILE_BYTES, MAX_FRAMES, MAX_HARVEST};
+use evidence::reference::wordfile::file_bytes;
 use evidence::reference::Reference;
 use evidence::under_test;
 
@@ -27,6 +28,19 @@ fn figures(capacity: u32, start: u32, end: u32) -> Figures {
 }
 
 #[test]
+fn the_bindings_limits_are_document_01s() {
+    assert_eq!(energy::MAX_FRAMES, MAX_FRAMES);
+    assert_eq!(energy::MAX_FILE_BYTES, MAX_FILE_BYTES);
+    assert_eq!(energy::MAX_HARVEST, MAX_HARVEST);
+    assert_eq!(energy::MAX_CAPACITY, MAX_CAPACITY);
+    assert_eq!(
+        file_bytes(MAX_FRAMES),
+        MAX_FILE_BYTES,
+        "the longest file is that of the most frames"
+    );
+}
+
+#[test]
 fn a_harvest_of_400_000_passes_and_400_001_does_not() {
     assert_eq!(refusal_number(figures(9, 0, 0), &[MAX_HARVEST]), 0);
     assert_eq!(refusal_number(figures(9, 0, 0), &[MAX_HARVEST + 1]), 6);
@@ -40,7 +54,7 @@ fn a_harvest_of_400_000_passes_and_400_001_does_not() {
 }
 
 #[test]
-fn frames_up_to_2_976_pass_and_2_977_do_not() {
+fn the_most_frames_pass_and_one_more_do_not() {
     assert_eq!(refusal_number(figures(9, 0, 0), &[1; MAX_FRAMES]), 0);
     assert_eq!(refusal_number(figures(9, 0, 0), &[1; MAX_FRAMES + 1]), 2);
     for count in [0, 1, MAX_FRAMES, MAX_FRAMES + 1, 4 * MAX_FRAMES] {
@@ -52,8 +66,7 @@ fn frames_up_to_2_976_pass_and_2_977_do_not() {
             budgets: count,
         });
         compare(Case::Needed {
-            start: 3,
-            end: 3,
+            figures,
             harvest: harvest.clone(),
         });
         compare(Case::Trace {
@@ -68,7 +81,7 @@ fn frames_up_to_2_976_pass_and_2_977_do_not() {
         compare(Case::Write {
             figures,
             harvest: harvest.clone(),
-            room: 4 * (count + 4),
+            room: file_bytes(count),
         });
         compare(Case::Run {
             figures,
@@ -114,13 +127,12 @@ fn the_figures_at_their_limits() {
                 budgets: harvest.len(),
             });
             compare(Case::Needed {
-                start,
-                end,
+                figures,
                 harvest: harvest.clone(),
             });
             compare(Case::Write {
                 figures,
-                room: 4 * (harvest.len() + 4),
+                room: file_bytes(harvest.len()),
                 harvest,
             });
         }
@@ -131,17 +143,12 @@ fn the_figures_at_their_limits() {
 fn the_needed_capacity_may_exceed_the_limit_on_capacities() {
     let mut harvest = vec![MAX_HARVEST; MAX_FRAMES / 2];
     harvest.resize(MAX_FRAMES, 0);
+    let figures = figures(0, MAX_CAPACITY, MAX_CAPACITY);
     for energy in under_test() {
-        let needed = energy
-            .needed(MAX_CAPACITY, MAX_CAPACITY, &harvest)
-            .expect("a valid request");
+        let needed = energy.needed(figures, &harvest).expect("a valid request");
         assert!(needed > u64::from(MAX_CAPACITY), "{}: {needed}", energy.name());
     }
-    compare(Case::Needed {
-        start: MAX_CAPACITY,
-        end: MAX_CAPACITY,
-        harvest,
-    });
+    compare(Case::Needed { figures, harvest });
 }
 
 #[test]
@@ -171,6 +178,24 @@ fn files_around_the_largest_size() {
                 room,
             });
         }
+    }
+}
+
+#[test]
+fn listings_of_the_most_frames_have_room() {
+    let most = MAX_CAPACITY;
+    for (start, end) in [(most, most), (most, 0), (0, most)] {
+        let mut file = vec![0; MAX_FILE_BYTES];
+        let written = Reference.write(figures(most, start, end), &[MAX_HARVEST; MAX_FRAMES], &mut file);
+        assert_eq!(written, Ok(MAX_FILE_BYTES));
+        for energy in under_test() {
+            let bytes = energy.listing(&file, &mut vec![0; 2 * LISTING_BYTES]);
+            assert!(bytes <= LISTING_BYTES, "{}: {bytes}", energy.name());
+        }
+        compare(Case::Listing {
+            file,
+            room: LISTING_BYTES,
+        });
     }
 }
 
@@ -206,16 +231,16 @@ fn short_and_torn_files() {
 
 #[test]
 fn records_with_totals_near_the_largest_number() {
-    let good = Shift {
+    let terms = Terms {
         frames: 3,
-        recorded: 1,
         capacity: 10,
         start: 4,
         end: 0,
+    };
+    let now = |totals| Present {
+        recorded: 1,
         charge: 5,
-        harvested: 7,
-        used: 2,
-        lost: 4,
+        totals,
     };
     let calls = [
         Call::Record { harvest: 3, used: 2 },
@@ -233,15 +258,11 @@ fn records_with_totals_near_the_largest_number() {
         (1 << 63, (1 << 63) + 6),
         (2, 5),
     ] {
-        for harvested in [7, 400_000, 400_001, u64::MAX] {
+        for harvested in [7, MAX_HARVEST.into(), u64::from(MAX_HARVEST) + 1, u64::MAX] {
             for call in &calls {
+                let now = now(Totals { harvested, used, lost });
                 compare(Case::On {
-                    shift: Shift {
-                        used,
-                        lost,
-                        harvested,
-                        ..good
-                    },
+                    shift: Shift { terms, now },
                     call: call.clone(),
                 });
             }

@@ -1,7 +1,7 @@
 //! Document 01's cases worked by hand, through every implementation.
 
-use energy::{Energy, Figures, Refusal, Rest, Shift, Verdict};
-use evidence::reference::limits::LISTING_BYTES;
+use energy::{Energy, Figures, Present, Refusal, Rest, Shift, Terms, Totals, Verdict, LISTING_BYTES};
+use evidence::reference::limits::MAX_FILE_BYTES;
 use evidence::reference::Reference;
 use evidence::under_test;
 
@@ -60,9 +60,10 @@ fn plans() {
 #[test]
 fn needed_capacities() {
     for energy in all() {
-        assert_eq!(energy.needed(2, 2, &LISTING), Ok(6), "{}", energy.name());
-        assert_eq!(energy.needed(0, 0, &[1, 2]), Ok(0), "{}", energy.name());
-        assert_eq!(energy.needed(10, 0, &[0]), Ok(10), "{}", energy.name());
+        let needed = |capacity, start, end, harvest: &[u32]| energy.needed(figures(capacity, start, end), harvest);
+        assert_eq!(needed(5, 2, 2, &LISTING), Ok(6), "{}", energy.name());
+        assert_eq!(needed(9, 0, 0, &[1, 2]), Ok(0), "{}", energy.name());
+        assert_eq!(needed(10, 10, 0, &[0]), Ok(10), "{}", energy.name());
     }
 }
 
@@ -83,7 +84,7 @@ fn recordings() {
         let record = |used| {
             energy
                 .shift_record(shift, 3, used)
-                .map(|s| (s.charge, s.lost))
+                .map(|s| (s.now.charge, s.now.totals.lost))
                 .map_err(|not| not.refusal)
         };
         assert_eq!(record(7), Ok((0, 0)), "{}", energy.name());
@@ -103,15 +104,21 @@ fn the_rest_after_a_recording() {
         let shift = energy.shift_start(figures(5, 2, 2), &LISTING).expect("a valid request");
         let shift = energy.shift_record(shift, 1, 3).expect("a frame to record");
         let expected = Shift {
-            frames: 6,
-            recorded: 1,
-            capacity: 5,
-            start: 2,
-            end: 2,
-            charge: 0,
-            harvested: 1,
-            used: 3,
-            lost: 0,
+            terms: Terms {
+                frames: 6,
+                capacity: 5,
+                start: 2,
+                end: 2,
+            },
+            now: Present {
+                recorded: 1,
+                charge: 0,
+                totals: Totals {
+                    harvested: 1,
+                    used: 3,
+                    lost: 0,
+                },
+            },
         };
         assert_eq!(shift, expected, "{}", energy.name());
         let mut budgets = [4, 3, 3, 2, 4, 4];
@@ -159,7 +166,8 @@ fn the_listing() {
         assert_eq!(listing(&*energy, &file), LISTED, "{}", energy.name());
         assert_eq!(listing(&*energy, &file[..39]), "refused 8 9\n", "{}", energy.name());
         assert_eq!(listing(&*energy, &[]), "refused 8 0\n", "{}", energy.name());
-        assert_eq!(listing(&*energy, &[0; 11_921]), "refused 2 0\n", "{}", energy.name());
+        let too_long = [0; MAX_FILE_BYTES + 1];
+        assert_eq!(listing(&*energy, &too_long), "refused 2 0\n", "{}", energy.name());
     }
 }
 

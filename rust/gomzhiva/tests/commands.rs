@@ -517,7 +517,7 @@ fn commands_show_the_reference() {
             prop_assert_eq!(&folder.run(&["plan", "--listing", "request"]).out, &text[..bytes]);
         }
 
-        let needed = Reference.needed(figures.start, figures.end, &harvest);
+        let needed = Reference.needed(figures, &harvest);
         let shown = lines(needed.map(|needed| format!("needed capacity {needed} Wh\n")));
         prop_assert_eq!(folder.run(&["needed", "request"]).text(), shown);
 

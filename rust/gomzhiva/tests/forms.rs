@@ -339,7 +339,7 @@ fn a_changed_word_file_is_what_the_reference_reads() {
         let ran = Folder::new().run_with(&["text", "-"], &file);
         match Reference.read(&file, &mut harvest) {
             Ok(read) => {
-                harvest.truncate(read.frames as usize);
+                harvest.truncate(read.frames);
                 let figures = read.figures;
                 prop_assert_eq!(ran.text(), Request { figures, harvest }.text());
             }

@@ -3,7 +3,7 @@
 mod common;
 
 use common::{request_text, standing, Folder};
-use energy::Figures;
+use energy::{Figures, Present};
 use evidence::random::{seed, Random};
 use evidence::reference::logbook::Logbook;
 use std::path::Path;
@@ -57,12 +57,12 @@ impl<'a> Killed<'a> {
 
     fn is_done(&self) -> bool {
         let shift = self.logbook.record_now();
-        shift.recorded == shift.frames
+        shift.now.recorded == shift.terms.frames
     }
 
     /// Records the next frame, and kills the program after a while if one is given; the answer as far as it came.
     fn record(&mut self, harvest: u32, used: u32, kill_after: Option<Duration>) -> (String, bool) {
-        let frame = self.logbook.record_now().recorded + 1;
+        let frame = self.logbook.record_now().now.recorded + 1;
         let words = [harvest, used, frame].map(|number| number.to_string());
         let [harvest, used, frame] = &words;
         let arguments = [
@@ -103,8 +103,9 @@ impl<'a> Killed<'a> {
     fn enter(&mut self, harvest: u32, used: u32) -> String {
         self.logbook.record(harvest, used).expect("figures that are accepted");
         let shift = self.logbook.record_now();
-        self.rows += &format!("{},{harvest},{used},{}\n", shift.recorded, shift.charge);
-        format!("Recorded frame {}. {}", shift.recorded, standing(&shift))
+        let Present { recorded, charge, .. } = shift.now;
+        self.rows += &format!("{recorded},{harvest},{used},{charge}\n");
+        format!("Recorded frame {recorded}. {}", standing(&shift))
     }
 
     /// Opens the journal again after a recording that was not answered: it is there, or it is not.
@@ -122,7 +123,7 @@ impl<'a> Killed<'a> {
     /// One turn of the recording loop.
     fn turn(&mut self, kill: bool, random: &mut Random, ends: &mut Ends) {
         let harvest = random.up_to_u32(9);
-        let used = random.up_to_u32(self.logbook.record_now().charge + harvest);
+        let used = random.up_to_u32(self.logbook.record_now().now.charge + harvest);
         let moment = || self.lasts * random.up_to_u32(1000) / 900;
         let kill_after = kill.then(moment);
         let (answer, killed) = self.record(harvest, used, kill_after);
@@ -159,7 +160,7 @@ fn two_hundred_killed_shifts_keep_every_answer_once() {
         let before = ends.killed;
         while !shift.is_done() {
             // The first recording is not killed, so that it is known how long one takes.
-            let first = shift.logbook.record_now().recorded == 0;
+            let first = shift.logbook.record_now().now.recorded == 0;
             let kill = !first && !random.one_in(3);
             shift.turn(kill, random, &mut ends);
         }

@@ -3,7 +3,7 @@
 mod common;
 
 use common::{column, request_text, standing, Folder, Ran, DAY};
-use energy::{Energy, Figures, Rest, Shift};
+use energy::{Energy, Figures, Present, Rest, Shift};
 use evidence::random::{seed, Random};
 use evidence::reference::logbook::Logbook;
 use evidence::reference::Reference;
@@ -169,11 +169,11 @@ fn calls(folder: &Folder) -> Vec<String> {
 
 /// The plan of the rest as a table, from the logbook's budgets and the reference's charges.
 fn rest_table(shift: &Shift, forecast: &[u32], budgets: &[u32]) -> String {
-    let next = shift.recorded as usize;
+    let next = shift.now.recorded as usize;
     let figures = Figures {
-        capacity: shift.capacity,
-        start: shift.charge,
-        end: shift.end,
+        capacity: shift.terms.capacity,
+        start: shift.now.charge,
+        end: shift.terms.end,
     };
     let mut charges = vec![0; forecast.len() - next];
     let traced = Reference.trace(figures, &forecast[next..], &budgets[next..], &mut charges);
@@ -222,16 +222,21 @@ fn assert_logbooks(random: &mut Random) -> u32 {
         } else {
             random.up_to_u32(12)
         };
-        let used = random.up_to_u32(logbook.record_now().charge + harvest.min(12) + 2);
+        let used = random.up_to_u32(logbook.record_now().now.charge + harvest.min(12) + 2);
         let before = folder.read("journal");
         let recorded = record(&folder, harvest, used);
         match logbook.record(harvest, used) {
             Ok(()) => {
                 let shift = logbook.record_now();
-                let answer = format!("Recorded frame {}. {}", shift.recorded, standing(&shift));
+                let Present {
+                    recorded: frame,
+                    charge,
+                    ..
+                } = shift.now;
+                let answer = format!("Recorded frame {frame}. {}", standing(&shift));
                 assert_eq!(told(recorded), done(&answer));
                 accepted.push(format!("record {harvest} {used}"));
-                rows += &format!("{},{harvest},{used},{}\n", shift.recorded, shift.charge);
+                rows += &format!("{frame},{harvest},{used},{charge}\n");
             }
             Err(refusal) => {
                 assert_eq!((recorded.status, recorded.text()), (Some(1), format!("{refusal}\n")));
@@ -265,7 +270,7 @@ fn assert_logbooks(random: &mut Random) -> u32 {
         let shown = folder.run(&SHOW);
         assert_eq!((shown.status, shown.text()), (Some(0), rows.clone()));
         let shift = logbook.record_now();
-        let missed = shift.recorded == shift.frames && shift.charge < shift.end;
+        let missed = shift.now.recorded == shift.terms.frames && shift.now.charge < shift.terms.end;
         assert_eq!(shown.err.contains("below the end charge"), missed);
     }
     assert!(logbook.balances());

@@ -1,25 +1,14 @@
--- `plan::write_listing` meets its contract.
+-- The list has the room of every listing, and more was read than a file may have or all of it, so the text is the
+-- file's.
 use mathlib.Core.Path.{_≡_, ap, _∙_}
 use Prim.Native.Nat.{ℕ, _-_}
 use lib.ListN.{take}
-use Rattle.listing.specs.Text.{listing}
+use Rattle.printed.specs.Text.{listing}
 use Rattle.plan.proofs.Read as law
 use native.Mathlib.Omega.{arith}
 use borrow.Author.Needs.{needs}
 use Rattle.plan.proofs.write_listing.Statement.{statement}
 use Rattle.plan.proofs.write_listing.Tie as tie
-
-sub-list : tie.Need-sub-list
-sub-list c = search needs
-
-part-list-start : tie.Need-part-list-start
-part-list-start c = search needs
-
-part-list-end : tie.Need-part-list-end
-part-list-end c = search needs
-
-list-requires : tie.Need-list-requires
-list-requires c κs = search needs
 
 returns : tie.Need-returns
 returns c =
@@ -35,4 +24,5 @@ returns c =
 
 pub write-listing-spec : {M : Type 1} → statement M
 write-listing-spec =
-    tie.close (tie.spec sub-list part-list-start part-list-end list-requires returns)
+    tie.close
+    (tie.spec (λ c. search needs) (λ c. search needs) (λ c. search needs) (λ c κs. search needs) returns)

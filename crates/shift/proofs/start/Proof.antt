@@ -1,49 +1,59 @@
--- `start` meets its promise, refused and started.
-use mathlib.Core.Path.{_≡_, refl, sym, ap, _∙_}
-use mathlib.Core.Bool.{true}
+-- The refusal is the rule's in either case, and the shift the one due beside it.
+use mathlib.Core.Path.{_≡_, sym, ap, _∙_}
+use mathlib.Core.Bool.{true, false}
 use native.Mathlib.Omega.{arith}
+use borrow.Author.Needs.{needs}
 use borrow.Author.Tests.{not-true, not-false}
 use Rattle.model.specs.Request.{request}
-use Rattle.model.specs.Refusals.{isNone, startRefusal}
+use Rattle.model.specs.Refusals.{isNone}
 use Rattle.request.proofs.Within.{start-within}
-use Rattle.shift.specs.Shift.{started}
+use Rattle.model.proofs.Choice.{pick-by}
+use Rattle.shift.specs.Shift.{started, noShift}
 use Rattle.shift.proofs.Started as law
-use borrow.Author.Needs.{needs}
 use Rattle.shift.proofs.start.Statement.{statement}
 use Rattle.shift.proofs.start.Tie as tie
 
--- past the test there is no refusal
-clear : (c : tie.Else1) → let s = c .before .before .before .before .args in isNone (startRefusal (request (s .capacity) (s .start) (s .end) (s .harvest .now))) ≡ true
-clear c =
-    ap isNone (sym (c .before .before .start-refusal .ensures))
-    ∙ sym (c .before .is-none .ensures)
-    ∙ not-false (c .before .is-none .result) (c .if1 .left)
-
-start-refusal-requires : tie.Need-start-refusal-requires
-start-refusal-requires c κs = search needs
-
-is-none-requires : tie.Need-is-none-requires
-is-none-requires c κs = search needs
-
 returns : tie.Need-returns
 returns c =
-    let n = c .before in
-    let f = n .before in
+    let t = c .before in
+    let f = t .before .before in
     let s = f .before .before .args in
-    law.start-refused (request (s .capacity) (s .start) (s .end) (s .harvest .now)) (f .start-refusal .result) (f .start-refusal .ensures)
-    (sym (n .is-none .ensures) ∙ not-true (n .is-none .result) (c .if1 .taken))
+    let q = request (s .figures) (s .harvest .now) in
+    law.start-says q (f .start-refusal .result) (c .fresh-shift .result) (f .start-refusal .ensures)
+    (c .fresh-shift .ensures
+    ∙ sym (pick-by (isNone (f .start-refusal .result)) false (started q) noShift
+    (sym (t .before .is-none .ensures) ∙ not-true (t .before .is-none .result) (t .if1 .taken))))
 
-cast-t9 : tie.Need-cast-t9
-cast-t9 c =
-    let s = c .before .before .before .before .args in
-    let w = start-within (request (s .capacity) (s .start) (s .end) (s .harvest .now)) (clear c) in
+-- past the test there is no refusal
+clear : (c : tie.Else1) → isNone (c .before .before .start-refusal .result) ≡ true
+clear c = sym (c .before .is-none .ensures) ∙ not-false (c .before .is-none .result) (c .if1 .left)
+
+-- so that the frames fit
+cast-frames : tie.Need-cast-frames
+cast-frames c =
+    let f = c .before .before in
+    let s = f .before .before .args in
+    let w = start-within (request (s .figures) (s .harvest .now)) (ap isNone (sym (f .start-refusal .ensures))
+    ∙ clear c) in
     omega arith
 
 returns-2 : tie.Need-returns-2
 returns-2 c =
-    let s = c .before .before .before .before .args in
-    let q = request (s .capacity) (s .start) (s .end) (s .harvest .now) in
-    law.start-done q (started q) (clear c) refl
+    let f = c .before .before .before in
+    let s = f .before .before .args in
+    let q = request (s .figures) (s .harvest .now) in
+    law.start-says q (f .start-refusal .result) (c .fresh-shift2 .result) (f .start-refusal .ensures)
+    (c .fresh-shift2 .ensures ∙ sym
+    (pick-by (isNone (f .start-refusal .result)) true (started q) noShift (clear (c .before))))
 
 pub start-spec : {M : Type 1} → statement M
-start-spec = tie.close (tie.spec start-refusal-requires is-none-requires returns cast-t9 returns-2)
+start-spec =
+    tie.close
+    (tie.spec
+    (λ c κs. search needs)
+    (λ c κs. search needs)
+    (λ c κs. search needs)
+    returns
+    cast-frames
+    (λ c κs. search needs)
+    returns-2)

@@ -1,4 +1,5 @@
--- The tracer keeps its promise: refused before the charges are written, or judged by the charges written.
+-- A refusal is found before anything is written; past it the charges written are the trace, and the verdict on them
+-- is the definition's.
 use mathlib.Core.Bool.{true}
 use mathlib.Core.Path.{_≡_, _∙_, sym, ap}
 use Prim.Native.Nat.{_≤_}
@@ -18,18 +19,13 @@ use Rattle.tracer.proofs.trace.Tie as tie
 
 -- the request of the call
 abbrev requestOf : tie.Start → Request
-requestOf c = request (c .args .capacity) (c .args .start) (c .args .end) (c .args .harvest .now)
-
-trace-refusal-requires : tie.Need-trace-refusal-requires
-trace-refusal-requires c κs = search needs
-
-is-none-requires : tie.Need-is-none-requires
-is-none-requires c κs = search needs
+requestOf c = request (c .args .figures) (c .args .harvest .now)
 
 returns : tie.Need-returns
 returns c =
     let s = c .before .before .before .before .before in
-    law.refused (requestOf s) (s .args .budgets .now) (s .args .charges .now) (c .before .before .trace-refusal .result)
+    law.refused (requestOf s) (s .args .budgets .now) (s .args .charges .now)
+    (c .before .before .trace-refusal .result)
     (c .before .before .trace-refusal .ensures)
     (sym (c .before .is-none .ensures) ∙ not-true (c .before .is-none .result) (c .if1 .taken))
 
@@ -38,7 +34,8 @@ not-refused : (c : tie.Else1)
     → let s = c .before .before .before .before .before in
     isNone (traceRefusal (requestOf s) (length (s .args .budgets .now)) (length (s .args .charges .now))) ≡ true
 not-refused c =
-    sym (ap isNone (c .before .before .trace-refusal .ensures)) ∙ sym (c .before .is-none .ensures) ∙ not-false (c .before .is-none .result) (c .if1 .left)
+    sym (ap isNone (c .before .before .trace-refusal .ensures)) ∙ sym (c .before .is-none .ensures)
+    ∙ not-false (c .before .is-none .result) (c .if1 .left)
 
 -- so the figures are within their limits and the lists of one length
 within : (c : tie.Else1)
@@ -56,31 +53,30 @@ judge-requires c κs =
     let e = c .before .before .before .before in
     let w = within e in
     let a = e .before .before .before .before .before .args in
-    let ys = c .before .before .fill .last .1 .1 .1 .1 .0 in
-    let n = written-length (a .capacity) (pos (a .start)) (a .harvest .now) (a .budgets .now) ys (c .before .before .fill .ensures) (w .budgets) in
+    let ys = c .before .before .fill .last .1 .1 .1 .0 in
+    let n = written-length (a .figures .capacity) (pos (a .figures .start)) (a .harvest .now) (a .budgets .now) ys
+    (c .before .before .fill .ensures) (w .budgets) in
     let low : 1 ≤ length ys = omega arith in
     let high : length ys ≤ maxFrames = omega arith in
     (low, high)
-
-same-length : tie.Need-same-length
-same-length c = search needs
 
 returns-2 : tie.Need-returns-2
 returns-2 c =
     let f = c .before .before .before in
     let e = f .before .before in
     let s = e .before .before .before .before .before in
-    law.traced (requestOf s) (s .args .budgets .now) (s .args .charges .now) (f .fill .last .1 .1 .1 .1 .0) (c .judge .result)
+    law.traced (requestOf s) (s .args .budgets .now) (s .args .charges .now) (f .fill .last .1 .1 .1 .0)
+    (c .judge .result)
     (not-refused e) (f .fill .ensures) (c .judge .ensures)
 
 pub trace-spec : {M : Type 1} → statement M
 trace-spec =
     tie.close
     (tie.spec
-    trace-refusal-requires
-    is-none-requires
+    (λ c κs. search needs)
+    (λ c κs. search needs)
     returns
     fill-requires
     judge-requires
-    same-length
+    (λ c. search needs)
     returns-2)

@@ -1,44 +1,72 @@
-//! The charge rule and Definition 1: which assignments are feasible.
+//! The charge rule, which tracer, search, shift and logbook call, and Definition 1: which assignments are feasible.
 
-/// What a frame ends with: the charge, and what exceeded the capacity and was lost.
+use energy::Figures;
+
+/// What a plan goes by besides its harvests: a capacity, also one that no request has, the charge before the first of
+/// its frames, and the end charge.
+#[derive(Clone, Copy, Debug, PartialEq, Eq)]
+pub struct Store {
+    pub capacity: u64,
+    pub start: u64,
+    pub end: u64,
+}
+
+impl From<Figures> for Store {
+    fn from(figures: Figures) -> Store {
+        Store {
+            capacity: figures.capacity.into(),
+            start: figures.start.into(),
+            end: figures.end.into(),
+        }
+    }
+}
+
+/// What a frame ends with: the charge, below zero where more was drawn than there was, and what was lost.
 #[derive(Clone, Copy, Debug, PartialEq, Eq)]
 pub struct FrameEnd {
-    pub charge: u64,
+    pub charge: i64,
     pub lost: u64,
 }
 
-/// One frame with harvest and budget, or nothing if the budget exceeds charge plus harvest.
-pub fn frame(capacity: u64, charge: u64, harvest: u32, budget: u32) -> Option<FrameEnd> {
-    let left = (charge + u64::from(harvest)).checked_sub(budget.into())?;
-    let charge = left.min(capacity);
-    Some(FrameEnd {
+/// After a frame the charge is the smaller of the capacity and (charge before + harvest − budget); what exceeds the
+/// capacity is lost.
+pub fn frame(capacity: u64, charge: i64, harvest: u32, budget: u32) -> FrameEnd {
+    let left = charge + i64::from(harvest) - i64::from(budget);
+    let charge = left.min(whole(capacity));
+    FrameEnd {
         charge,
-        lost: left - charge,
+        lost: left.abs_diff(charge),
+    }
+}
+
+/// What a frame has at hand: the charge before it and its harvest.
+pub fn at_hand(charge: u64, harvest: u32) -> u64 {
+    charge + u64::from(harvest)
+}
+
+/// A capacity or charge among the numbers that may be below zero.
+pub fn whole(energy: u64) -> i64 {
+    i64::try_from(energy).expect("less than 2^63 Wh")
+}
+
+/// What each frame ends with.
+pub fn walk<'a>(store: Store, harvest: &'a [u32], budgets: &'a [u32]) -> impl Iterator<Item = FrameEnd> + 'a {
+    let frames = harvest.iter().zip(budgets);
+    frames.scan(whole(store.start), move |charge, (&h, &b)| {
+        let end = frame(store.capacity, *charge, h, b);
+        *charge = end.charge;
+        Some(end)
     })
 }
 
-/// The charge after each frame and all losses, or nothing if a frame draws more than there is.
-pub fn walk(capacity: u64, start: u64, harvest: &[u32], budgets: &[u32]) -> Option<(Vec<u64>, u64)> {
-    let mut charge = start;
-    let mut lost = 0;
-    let mut charges = Vec::with_capacity(harvest.len());
-    for (&h, &b) in harvest.iter().zip(budgets) {
-        let end = frame(capacity, charge, h, b)?;
-        charge = end.charge;
-        lost += end.lost;
-        charges.push(charge);
-    }
-    Some((charges, lost))
-}
-
-/// Definition 1 from a given charge. A charge below zero after the last frame is below any end charge.
-pub fn feasible(capacity: u64, start: u64, end: u64, harvest: &[u32], budgets: &[u32]) -> bool {
-    let mut charge = start;
-    for (&h, &b) in harvest.iter().zip(budgets) {
-        match frame(capacity, charge, h, b) {
-            Some(after) => charge = after.charge,
-            None => return false,
+/// Definition 1: the charge is at least 0 after every frame but the last, and at least the end charge after that.
+pub fn feasible(store: Store, harvest: &[u32], budgets: &[u32]) -> bool {
+    let mut charge = whole(store.start);
+    for after in walk(store, harvest, budgets) {
+        charge = after.charge;
+        if charge < 0 {
+            return false;
         }
     }
-    charge >= end
+    charge >= whole(store.end)
 }

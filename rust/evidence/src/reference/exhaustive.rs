@@ -1,30 +1,36 @@
 //! The plan and the needed capacity by a search through all assignments, straight from document 01's definitions.
 
+use super::charge::{frame, whole, Store};
+use super::needed::unlimited;
 use super::tables::Table;
 use energy::Figures;
 
 /// All feasible assignments of a small request; the capacity may exceed its limit.
-pub fn feasible_assignments(capacity: u64, start: u64, end: u64, harvest: &[u32]) -> Vec<Vec<u32>> {
+pub fn feasible_assignments(store: Store, harvest: &[u32]) -> Vec<Vec<u32>> {
     let mut all = Vec::new();
-    let mut budgets = Vec::new();
-    extend(capacity, start, end, harvest, &mut budgets, &mut all);
+    extend(store, whole(store.start), harvest, &mut Vec::new(), &mut all);
     all
 }
 
-/// Adds every feasible assignment that begins with the given budgets; `harvest` is that of the frames left.
-fn extend(capacity: u64, charge: u64, end: u64, harvest: &[u32], budgets: &mut Vec<u32>, all: &mut Vec<Vec<u32>>) {
-    let (have, rest) = match harvest.split_first() {
-        Some((&first, rest)) => (charge + u64::from(first), rest),
+/// Adds every feasible assignment that begins with the given budgets, which lead to the given charge; `harvest` is that of
+/// the frames left.
+fn extend(store: Store, charge: i64, harvest: &[u32], budgets: &mut Vec<u32>, all: &mut Vec<Vec<u32>>) {
+    let (&first, rest) = match harvest.split_first() {
+        Some(parts) => parts,
         None => {
-            if charge >= end {
+            if charge >= whole(store.end) {
                 all.push(budgets.clone());
             }
             return;
         }
     };
-    for budget in 0..=have {
-        budgets.push(budget as u32);
-        extend(capacity, capacity.min(have - budget), end, rest, budgets, all);
+    for budget in 0.. {
+        let charge = frame(store.capacity, charge, first, budget).charge;
+        if charge < 0 {
+            return;
+        }
+        budgets.push(budget);
+        extend(store, charge, rest, budgets, all);
         budgets.pop();
     }
 }
@@ -54,12 +60,11 @@ pub fn plan(all: &[Vec<u32>], tables: &[Table]) -> Option<Vec<u32>> {
 }
 
 /// The needed capacity by the tables given: the least, at least start and end, whose best rewards are those of unlimited storage.
-pub fn needed(start: u32, end: u32, harvest: &[u32], tables: &[Table]) -> u64 {
-    let (start, end) = (u64::from(start), u64::from(end));
-    let unlimited = start + end + harvest.iter().map(|&h| u64::from(h)).sum::<u64>();
-    let rewards = |capacity| best_rewards(&feasible_assignments(capacity, start, end, harvest), tables);
-    let wanted = rewards(unlimited);
-    (start.max(end)..=unlimited)
+pub fn needed(store: Store, harvest: &[u32], tables: &[Table]) -> u64 {
+    let most = unlimited(store, harvest).capacity;
+    let rewards = |capacity| best_rewards(&feasible_assignments(Store { capacity, ..store }, harvest), tables);
+    let wanted = rewards(most);
+    (store.start.max(store.end)..=most)
         .find(|&capacity| rewards(capacity) == wanted)
         .expect("unlimited storage serves as unlimited storage")
 }

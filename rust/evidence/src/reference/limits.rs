@@ -11,6 +11,3 @@ pub const MAX_HARVEST: u32 = 400_000;
 
 /// The largest capacity; for the needed capacity, the largest start and end charge.
 pub const MAX_CAPACITY: u32 = 1_000_000_000;
-
-/// Room for any listing: 2,976 lines of at most 27 bytes, a first line of at most 50 and a last one of at most 42.
-pub const LISTING_BYTES: usize = 81_920;

@@ -7,11 +7,11 @@ use energy::{Energy, Refusal};
 fn text_of(energy: &dyn Energy, file: &[u8]) -> Result<String, Refusal> {
     let mut harvest = vec![0; MAX_FRAMES];
     let read = energy.read(file, &mut harvest)?;
-    harvest.truncate(read.frames as usize);
+    harvest.truncate(read.frames);
     let figures = read.figures;
     let mut budgets = vec![0; harvest.len()];
     energy.plan(figures, &harvest, &mut budgets)?;
-    let needed = energy.needed(figures.start, figures.end, &harvest)?;
+    let needed = energy.needed(figures, &harvest)?;
     let mut charges = vec![0; harvest.len()];
     energy.trace(figures, &harvest, &budgets, &mut charges)?;
     let [a, b, c] = energy.grade(&budgets)?;

@@ -1,8 +1,10 @@
 //! The logbook of demand 3: fed each recording's typed figures and nothing from the shift's record.
 
+use super::charge::frame;
 use super::plan::by_filling;
-use super::refusals::{self, refuse_if, Checked};
-use energy::{Figures, Refusal, Rest, Shift};
+use super::refusals::{self, Checked};
+use super::shift::{balances, entry, joined, rest, terms};
+use energy::{Figures, Present, Refusal, Rest, Shift, Totals};
 
 /// The request that the shift was started from, a count, a charge and the totals; and the history they sum up.
 #[derive(Clone, Debug)]
@@ -10,19 +12,10 @@ pub struct Logbook {
     figures: Figures,
     frames: usize,
     count: usize,
-    charge: u64,
-    harvested: u64,
-    used: u64,
-    lost: u64,
-    history: Vec<Recording>,
-}
-
-/// A recording that was not refused.
-#[derive(Clone, Copy, Debug)]
-struct Recording {
-    harvest: u32,
-    used: u32,
-    lost: u64,
+    charge: u32,
+    totals: Totals,
+    /// The recordings that were not refused.
+    history: Vec<Totals>,
 }
 
 impl Logbook {
@@ -32,34 +25,28 @@ impl Logbook {
             figures,
             frames: harvest.len(),
             count: 0,
-            charge: figures.start.into(),
-            harvested: 0,
-            used: 0,
-            lost: 0,
+            charge: figures.start,
+            totals: Totals::default(),
             history: Vec::new(),
         }
     }
 
     /// 20: every frame is recorded already.
     fn frames_left(&self) -> Checked {
-        refuse_if(self.count == self.frames, Refusal::AllRecorded)
+        refusals::frames_left(self.count as u64, self.frames as u64)
     }
 
     /// Enters typed figures, or refuses them by 20, 6 or 21 and stays as it is.
     pub fn record(&mut self, harvest: u32, used: u32) -> Checked {
         self.frames_left()?;
         refusals::harvests(self.count as u64 + 1, &[harvest])?;
-        let have = self.charge + u64::from(harvest);
-        let excess = u64::from(used).saturating_sub(have);
-        refuse_if(excess > 0, Refusal::UseAboveCharge { excess })?;
-        let left = have - u64::from(used);
-        self.charge = left.min(self.figures.capacity.into());
-        let lost = left - self.charge;
+        refusals::use_within(self.charge.into(), harvest, used)?;
+        let end = frame(self.figures.capacity.into(), self.charge.into(), harvest, used);
+        let entry = entry(harvest, used, end.lost);
         self.count += 1;
-        self.harvested += u64::from(harvest);
-        self.used += u64::from(used);
-        self.lost += lost;
-        self.history.push(Recording { harvest, used, lost });
+        self.charge = end.charge as u32;
+        self.totals = joined(self.totals, entry);
+        self.history.push(entry);
         Ok(())
     }
 
@@ -68,16 +55,10 @@ impl Logbook {
         refusals::same_length(harvest.len(), self.frames)?;
         refusals::same_length(budgets.len(), self.frames)?;
         self.frames_left()?;
-        let (rest, open) = (&harvest[self.count..], &mut budgets[self.count..]);
-        refusals::harvests(self.count as u64 + 1, rest)?;
-        let end = u64::from(self.figures.end);
-        let missing = refusals::missing(self.charge, end, rest);
-        if missing > 0 {
-            open.fill(0);
-            return Ok(Rest::Short { missing });
-        }
-        open.copy_from_slice(&by_filling(self.figures.capacity.into(), self.charge, end, rest));
-        Ok(Rest::Planned)
+        let (left, open) = (&harvest[self.count..], &mut budgets[self.count..]);
+        refusals::harvests(self.count as u64 + 1, left)?;
+        let terms = terms(self.figures, self.frames);
+        Ok(rest(terms, self.charge, left, open, by_filling))
     }
 
     /// Where the part that begins at the next frame begins (7, 20).
@@ -90,24 +71,18 @@ impl Logbook {
     /// The shift's record that these entries give.
     pub fn record_now(&self) -> Shift {
         Shift {
-            frames: self.frames as u32,
-            recorded: self.count as u32,
-            capacity: self.figures.capacity,
-            start: self.figures.start,
-            end: self.figures.end,
-            charge: self.charge as u32,
-            harvested: self.harvested,
-            used: self.used,
-            lost: self.lost,
+            terms: terms(self.figures, self.frames),
+            now: Present {
+                recorded: self.count as u32,
+                charge: self.charge,
+                totals: self.totals,
+            },
         }
     }
 
     /// Start plus the history's harvests is the charge plus its uses plus its losses, and the totals are its sums.
     pub fn balances(&self) -> bool {
-        let harvests: u64 = self.history.iter().map(|r| u64::from(r.harvest)).sum();
-        let uses: u64 = self.history.iter().map(|r| u64::from(r.used)).sum();
-        let losses: u64 = self.history.iter().map(|r| r.lost).sum();
-        (harvests, uses, losses) == (self.harvested, self.used, self.lost)
-            && u64::from(self.figures.start) + harvests == self.charge + uses + losses
+        let sums = self.history.iter().copied().fold(Totals::default(), joined);
+        sums == self.totals && balances(self.figures.start, self.charge, sums)
     }
 }

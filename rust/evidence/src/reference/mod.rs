@@ -14,7 +14,7 @@ pub mod tables;
 pub mod tracer;
 pub mod wordfile;
 
-use energy::{Energy, Figures, FileRead, NotRecorded, Refusal, Rest, Shift, Verdict};
+use energy::{Energy, Figures, Header, NotRecorded, Refusal, Rest, Shift, Verdict};
 
 /// The independent implementation.
 pub struct Reference;
@@ -26,18 +26,13 @@ impl Energy for Reference {
 
     fn plan(&self, figures: Figures, harvest: &[u32], budgets: &mut [u32]) -> Result<(), Refusal> {
         refusals::plan(figures, harvest, budgets.len())?;
-        budgets.copy_from_slice(&plan::by_filling(
-            figures.capacity.into(),
-            figures.start.into(),
-            figures.end.into(),
-            harvest,
-        ));
+        budgets.copy_from_slice(&plan::by_filling(figures.into(), harvest));
         Ok(())
     }
 
-    fn needed(&self, start: u32, end: u32, harvest: &[u32]) -> Result<u64, Refusal> {
-        refusals::needed(start, end, harvest)?;
-        Ok(needed::needed(start.into(), end.into(), harvest))
+    fn needed(&self, figures: Figures, harvest: &[u32]) -> Result<u64, Refusal> {
+        refusals::needed(figures, harvest)?;
+        Ok(needed::needed(figures.into(), harvest))
     }
 
     fn trace(
@@ -72,7 +67,7 @@ impl Energy for Reference {
         shift::rest_part(shift, budgets)
     }
 
-    fn read(&self, file: &[u8], harvest: &mut [u32]) -> Result<FileRead, Refusal> {
+    fn read(&self, file: &[u8], harvest: &mut [u32]) -> Result<Header, Refusal> {
         wordfile::read(file, harvest)
     }
 

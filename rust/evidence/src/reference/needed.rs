@@ -1,24 +1,27 @@
-//! The needed capacity: by its definition over plans, and by the source's formula.
+//! The needed capacity: by its definition over plans, and by the source's formula. A store's own capacity plays no part.
 
-use super::charge::walk;
+use super::charge::{walk, whole, Store};
 use super::plan::{by_filling, by_reserve};
 
 /// The most frames for which the definition is fast enough.
 const FEW_FRAMES: usize = 40;
 
 /// The needed capacity: by its definition for few frames, and by the source's formula for more.
-pub fn needed(start: u64, end: u64, harvest: &[u32]) -> u64 {
+pub fn needed(store: Store, harvest: &[u32]) -> u64 {
     if harvest.len() <= FEW_FRAMES {
-        by_definition(start, end, harvest)
+        by_definition(store, harvest)
     } else {
-        let open_plan = by_reserve(boundless(start, end, harvest), start, end, harvest);
-        by_peak(start, end, harvest, &open_plan)
+        by_peak(store, harvest, &by_reserve(unlimited(store, harvest), harvest))
     }
 }
 
-/// A capacity that no charge reaches.
-pub fn boundless(start: u64, end: u64, harvest: &[u32]) -> u64 {
-    start + end + harvest.iter().map(|&h| u64::from(h)).sum::<u64>()
+/// The store with a capacity that no charge reaches.
+pub fn unlimited(store: Store, harvest: &[u32]) -> Store {
+    let all: u64 = harvest.iter().map(|&h| u64::from(h)).sum();
+    Store {
+        capacity: store.start + store.end + all,
+        ..store
+    }
 }
 
 /// The budgets in order. Two lists serve equally at every level, and so earn equally by every table, exactly when these
@@ -30,14 +33,13 @@ fn by_size(mut budgets: Vec<u32>) -> Vec<u32> {
 
 /// The least capacity, at least start and end, whose plan serves as much at every level as the plan without limit.
 /// More capacity never serves less, so it is found by bisection.
-pub fn by_definition(start: u64, end: u64, harvest: &[u32]) -> u64 {
-    let unlimited = boundless(start, end, harvest);
-    let wanted = by_size(by_filling(unlimited, start, end, harvest));
-    let serves = |capacity| by_size(by_filling(capacity, start, end, harvest)) == wanted;
-    let (mut low, mut high) = (start.max(end), unlimited);
+pub fn by_definition(store: Store, harvest: &[u32]) -> u64 {
+    let served = |capacity| by_size(by_filling(Store { capacity, ..store }, harvest));
+    let (mut low, mut high) = (store.start.max(store.end), unlimited(store, harvest).capacity);
+    let wanted = served(high);
     while low < high {
         let middle = low + (high - low) / 2;
-        if serves(middle) {
+        if served(middle) == wanted {
             high = middle;
         } else {
             low = middle + 1;
@@ -47,8 +49,7 @@ pub fn by_definition(start: u64, end: u64, harvest: &[u32]) -> u64 {
 }
 
 /// The source's formula, the start and end charges counted too: the greatest charge under a plan without limit.
-pub fn by_peak(start: u64, end: u64, harvest: &[u32], open_plan: &[u32]) -> u64 {
-    let unlimited = boundless(start, end, harvest);
-    let (charges, _) = walk(unlimited, start, harvest, open_plan).expect("a plan draws no more than there is");
-    charges.into_iter().fold(start.max(end), u64::max)
+pub fn by_peak(store: Store, harvest: &[u32], open_plan: &[u32]) -> u64 {
+    let charges = walk(unlimited(store, harvest), harvest, open_plan).map(|end| end.charge);
+    charges.fold(whole(store.start.max(store.end)), i64::max) as u64
 }

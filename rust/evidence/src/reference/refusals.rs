@@ -1,6 +1,8 @@
 //! Refusals because of the input, each with its P, in document 01's order.
 
+use super::charge::at_hand;
 use super::limits::{MAX_CAPACITY, MAX_FRAMES, MAX_HARVEST};
+use super::wordfile::file_bytes;
 use energy::{Figures, Refusal};
 
 /// A refusal, or nothing to refuse.
@@ -44,16 +46,27 @@ pub fn harvests(first: u64, harvest: &[u32]) -> Checked {
     }
 }
 
-/// What the end charge misses when nothing is used: end less charge less all harvest, 0 if it is reached.
-pub fn missing(charge: u64, end: u64, harvest: &[u32]) -> u64 {
+/// What the end charge misses when nothing is used: end less start less all harvest, 0 if it is reached.
+pub fn missing(request: Figures, harvest: &[u32]) -> u64 {
     let all: u64 = harvest.iter().map(|&h| u64::from(h)).sum();
-    end.saturating_sub(charge + all)
+    u64::from(request.end).saturating_sub(u64::from(request.start) + all)
 }
 
 /// 9: start plus all harvest is below the end charge.
-pub fn reach(start: u32, end: u32, harvest: &[u32]) -> Checked {
-    let missing = missing(start.into(), end.into(), harvest);
+pub fn reach(request: Figures, harvest: &[u32]) -> Checked {
+    let missing = missing(request, harvest);
     refuse_if(missing > 0, Refusal::OutOfReach { missing })
+}
+
+/// 20: every frame is recorded already.
+pub fn frames_left(recorded: u64, frames: u64) -> Checked {
+    refuse_if(recorded == frames, Refusal::AllRecorded)
+}
+
+/// 21: use greater than charge plus harvest.
+pub fn use_within(charge: u64, harvest: u32, used: u32) -> Checked {
+    let excess = u64::from(used).saturating_sub(at_hand(charge, harvest));
+    refuse_if(excess > 0, Refusal::UseAboveCharge { excess })
 }
 
 /// Planning: 1, 2, 7, 3, 4, 5, 6, 9.
@@ -61,15 +74,16 @@ pub fn plan(request: Figures, harvest: &[u32], budgets: usize) -> Checked {
     frames(harvest.len())?;
     same_length(budgets, harvest.len())?;
     figures(request, harvest)?;
-    reach(request.start, request.end, harvest)
+    reach(request, harvest)
 }
 
 /// The needed capacity: 1, 2, 3 for start or end, 6, 9.
-pub fn needed(start: u32, end: u32, harvest: &[u32]) -> Checked {
+pub fn needed(request: Figures, harvest: &[u32]) -> Checked {
+    let Figures { start, end, .. } = request;
     frames(harvest.len())?;
     refuse_if(start > MAX_CAPACITY || end > MAX_CAPACITY, Refusal::CapacityOverLimit)?;
     harvests(1, harvest)?;
-    reach(start, end, harvest)
+    reach(request, harvest)
 }
 
 /// Tracing: 1, 2, 7, 3, 4, 5, 6.
@@ -88,6 +102,6 @@ pub fn start(request: Figures, harvest: &[u32]) -> Checked {
 /// Writing a word file: 1, 2, 7 for a list too short, 3, 4, 5, 6.
 pub fn write(request: Figures, harvest: &[u32], room: usize) -> Checked {
     frames(harvest.len())?;
-    refuse_if(room < 4 * (harvest.len() + 4), Refusal::WrongLength)?;
+    refuse_if(room < file_bytes(harvest.len()), Refusal::WrongLength)?;
     figures(request, harvest)
 }

@@ -1,69 +1,97 @@
 //! The shift as functions of its record, for any record, an impossible one too.
 
+use super::charge::{frame, Store};
 use super::limits::{MAX_CAPACITY, MAX_FRAMES, MAX_HARVEST};
 use super::refusals::{self, refuse_if, Checked};
-use energy::{Figures, NotRecorded, Refusal, Rest, Shift};
+use energy::{Figures, NotRecorded, Present, Refusal, Rest, Shift, Terms, Totals};
 
-/// How a plan is made: capacity, charge, end charge, harvests.
-pub type PlanMethod = fn(u64, u64, u64, &[u32]) -> Vec<u32>;
+/// How a plan is made.
+pub type PlanMethod = fn(Store, &[u32]) -> Vec<u32>;
 
 /// Starts a shift from a valid, reachable request.
 pub fn start(figures: Figures, harvest: &[u32]) -> Result<Shift, Refusal> {
     refusals::start(figures, harvest)?;
     Ok(Shift {
-        frames: harvest.len() as u32,
-        recorded: 0,
+        terms: terms(figures, harvest.len()),
+        now: Present {
+            recorded: 0,
+            charge: figures.start,
+            totals: Totals::default(),
+        },
+    })
+}
+
+/// What a shift of so many frames is started with.
+pub fn terms(figures: Figures, frames: usize) -> Terms {
+    Terms {
+        frames: frames as u32,
         capacity: figures.capacity,
         start: figures.start,
         end: figures.end,
-        charge: figures.start,
-        harvested: 0,
-        used: 0,
-        lost: 0,
-    })
+    }
+}
+
+/// A frame by itself: its typed figures and its loss.
+pub fn entry(harvest: u32, used: u32, lost: u64) -> Totals {
+    Totals {
+        harvested: harvest.into(),
+        used: used.into(),
+        lost,
+    }
+}
+
+/// The totals with a frame's.
+pub fn joined(totals: Totals, frame: Totals) -> Totals {
+    Totals {
+        harvested: totals.harvested + frame.harvested,
+        used: totals.used + frame.used,
+        lost: totals.lost + frame.lost,
+    }
 }
 
 /// 22: a record that isn't one.
 fn is_shift(s: &Shift) -> Checked {
-    let frames = s.frames as usize;
-    let balance =
-        u128::from(s.start) + u128::from(s.harvested) == u128::from(s.charge) + u128::from(s.used) + u128::from(s.lost);
-    let good = s.recorded <= s.frames
-        && (1..=MAX_FRAMES).contains(&frames)
-        && s.capacity <= MAX_CAPACITY
-        && s.charge <= s.capacity
-        && s.start <= s.capacity
-        && s.end <= s.capacity
-        && s.harvested <= u64::from(MAX_HARVEST) * u64::from(s.recorded)
-        && balance;
+    let Shift { terms, now } = s;
+    let good = now.recorded <= terms.frames
+        && (1..=MAX_FRAMES).contains(&(terms.frames as usize))
+        && terms.capacity <= MAX_CAPACITY
+        && now.charge <= terms.capacity
+        && terms.start <= terms.capacity
+        && terms.end <= terms.capacity
+        && now.totals.harvested <= u64::from(MAX_HARVEST) * u64::from(now.recorded)
+        && balances(terms.start, now.charge, now.totals);
     refuse_if(!good, Refusal::NotAShift)
+}
+
+/// Start plus what was harvested is the charge plus what was used and lost.
+pub fn balances(start: u32, charge: u32, totals: Totals) -> bool {
+    let Totals { harvested, used, lost } = totals;
+    u128::from(start) + u128::from(harvested) == u128::from(charge) + u128::from(used) + u128::from(lost)
 }
 
 /// 20: every frame is recorded already.
 fn frames_left(s: &Shift) -> Checked {
-    refuse_if(s.recorded == s.frames, Refusal::AllRecorded)
+    refusals::frames_left(s.now.recorded.into(), s.terms.frames.into())
 }
 
 /// Recording: 22, 20, 6 with the frame being recorded, 21.
 fn record_refusal(s: &Shift, harvest: u32, used: u32) -> Checked {
     is_shift(s)?;
     frames_left(s)?;
-    refusals::harvests(u64::from(s.recorded) + 1, &[harvest])?;
-    let excess = u64::from(used).saturating_sub(u64::from(s.charge) + u64::from(harvest));
-    refuse_if(excess > 0, Refusal::UseAboveCharge { excess })
+    refusals::harvests(u64::from(s.now.recorded) + 1, &[harvest])?;
+    refusals::use_within(s.now.charge.into(), harvest, used)
 }
 
 /// Records the actual harvest and use of the next frame; a refusal hands back the shift as it was.
 pub fn record(s: Shift, harvest: u32, used: u32) -> Result<Shift, NotRecorded> {
     record_refusal(&s, harvest, used).map_err(|refusal| NotRecorded { refusal, shift: s })?;
-    let left = u64::from(s.charge) + u64::from(harvest) - u64::from(used);
-    let charge = left.min(s.capacity.into());
+    let end = frame(s.terms.capacity.into(), s.now.charge.into(), harvest, used);
     Ok(Shift {
-        recorded: s.recorded + 1,
-        charge: charge as u32,
-        harvested: s.harvested + u64::from(harvest),
-        used: s.used + u64::from(used),
-        lost: s.lost + (left - charge),
+        now: Present {
+            recorded: s.now.recorded + 1,
+            charge: end.charge as u32,
+            totals: joined(s.now.totals, entry(harvest, used, end.lost)),
+        },
         ..s
     })
 }
@@ -71,25 +99,36 @@ pub fn record(s: Shift, harvest: u32, used: u32) -> Result<Shift, NotRecorded> {
 /// Plans the frames not yet recorded: 22, 7, 20, 6 over these.
 pub fn plan_rest(s: Shift, harvest: &[u32], budgets: &mut [u32], method: PlanMethod) -> Result<Rest, Refusal> {
     is_shift(&s)?;
-    refusals::same_length(harvest.len(), s.frames as usize)?;
-    refusals::same_length(budgets.len(), s.frames as usize)?;
+    refusals::same_length(harvest.len(), s.terms.frames as usize)?;
+    refusals::same_length(budgets.len(), s.terms.frames as usize)?;
     frames_left(&s)?;
-    let next = s.recorded as usize;
-    refusals::harvests(next as u64 + 1, &harvest[next..])?;
-    let (charge, end) = (s.charge.into(), s.end.into());
-    let missing = refusals::missing(charge, end, &harvest[next..]);
+    let next = s.now.recorded as usize;
+    let (left, open) = (&harvest[next..], &mut budgets[next..]);
+    refusals::harvests(next as u64 + 1, left)?;
+    Ok(rest(s.terms, s.now.charge, left, open, method))
+}
+
+/// The plan of the frames that are left, for which the present charge stands for the start charge, or what they miss and
+/// budgets of 0.
+pub fn rest(terms: Terms, charge: u32, harvest: &[u32], budgets: &mut [u32], method: PlanMethod) -> Rest {
+    let left = Figures {
+        capacity: terms.capacity,
+        start: charge,
+        end: terms.end,
+    };
+    let missing = refusals::missing(left, harvest);
     if missing > 0 {
-        budgets[next..].fill(0);
-        return Ok(Rest::Short { missing });
+        budgets.fill(0);
+        return Rest::Short { missing };
     }
-    budgets[next..].copy_from_slice(&method(s.capacity.into(), charge, end, &harvest[next..]));
-    Ok(Rest::Planned)
+    budgets.copy_from_slice(&method(left.into(), harvest));
+    Rest::Planned
 }
 
 /// The part of the budgets that begins at the next frame: 22, 7, 20.
 pub fn rest_part(s: Shift, budgets: &[u32]) -> Result<&[u32], Refusal> {
     is_shift(&s)?;
-    refusals::same_length(budgets.len(), s.frames as usize)?;
+    refusals::same_length(budgets.len(), s.terms.frames as usize)?;
     frames_left(&s)?;
-    Ok(&budgets[s.recorded as usize..])
+    Ok(&budgets[s.now.recorded as usize..])
 }

@@ -1,14 +1,12 @@
 //! The tracer: charges of any budgets, below zero included, and the verdict.
 
+use super::charge::walk;
 use energy::{Figures, Verdict};
 
 /// Writes the charge after each frame, and judges the budgets. All lists are equally long.
 pub fn trace(figures: Figures, harvest: &[u32], budgets: &[u32], charges: &mut [i64]) -> Verdict {
-    let capacity = i64::from(figures.capacity);
-    let mut charge = i64::from(figures.start);
-    for ((&h, &b), after) in harvest.iter().zip(budgets).zip(charges.iter_mut()) {
-        charge = capacity.min(charge + i64::from(h) - i64::from(b));
-        *after = charge;
+    for (place, end) in charges.iter_mut().zip(walk(figures.into(), harvest, budgets)) {
+        *place = end.charge;
     }
     verdict(figures, charges)
 }

@@ -2,7 +2,7 @@
 
 use super::limits::{MAX_FILE_BYTES, MAX_FRAMES};
 use super::refusals::{self, refuse_if};
-use energy::{Figures, FileRead, Refusal};
+use energy::{Figures, Header, Refusal};
 
 /// A word taken apart.
 #[derive(Clone, Copy, PartialEq, Eq)]
@@ -25,8 +25,13 @@ impl Word {
     }
 }
 
+/// The bytes of a file of so many harvests: the words of three figures, of the harvests and of their count.
+pub fn file_bytes(frames: usize) -> usize {
+    4 * (3 + frames + 1)
+}
+
 /// Reads a file: its size (2), its form (8), its frames (2), the lent list (7), and nothing else.
-pub fn read(file: &[u8], harvest: &mut [u32]) -> Result<FileRead, Refusal> {
+pub fn read(file: &[u8], harvest: &mut [u32]) -> Result<Header, Refusal> {
     refuse_if(file.len() > MAX_FILE_BYTES, Refusal::TooLong)?;
     let chunks = file.chunks_exact(4);
     let torn = !chunks.remainder().is_empty();
@@ -40,13 +45,13 @@ pub fn read(file: &[u8], harvest: &mut [u32]) -> Result<FileRead, Refusal> {
     for (place, word) in harvest.iter_mut().zip(harvests) {
         *place = word.value;
     }
-    Ok(FileRead {
+    Ok(Header {
         figures: Figures {
             capacity: words[0].value,
             start: words[1].value,
             end: words[2].value,
         },
-        frames: harvests.len() as u32,
+        frames: harvests.len(),
     })
 }
 
@@ -79,5 +84,5 @@ pub fn write(figures: Figures, harvest: &[u32], file: &mut [u8]) -> Result<usize
     for (place, word) in file.chunks_exact_mut(4).zip(words) {
         place.copy_from_slice(&word.bytes());
     }
-    Ok(4 * (harvest.len() + 4))
+    Ok(file_bytes(harvest.len()))
 }

@@ -13,7 +13,7 @@ use plotters::prelude::*;
 use plotters::style::text_anchor::{HPos, Pos, VPos};
 use scale::Scale;
 
-/// A4 landscape in twentieths of a millimetre: each of 2,976 frames is at least one unit wide.
+/// A4 landscape in twentieths of a millimetre: each frame is at least one unit wide, of the most frames too.
 const PAGE: (u32, u32) = (5940, 4200);
 const MARGIN: i32 = 170;
 const TITLE_ROW: i32 = 200;
@@ -119,6 +119,7 @@ fn sized_for_paper(svg: &str) -> String {
 #[cfg(test)]
 mod tests {
     use super::*;
+    use energy::MAX_FRAMES;
 
     const PLAN: Picture<'static> = Picture {
         title: "plan",
@@ -213,7 +214,7 @@ mod tests {
 
     #[test]
     fn each_frame_has_a_bar_and_a_step() {
-        for frames in [0, 1, 6, 96, 672, 2976] {
+        for frames in [0, 1, 6, 96, 672, MAX_FRAMES] {
             let outlines = outlines(&even_svg(frames, (7, 5, 9), PLAN));
             let lower = &outlines[outlines.len() - 2..];
             assert_eq!(lower[0].len(), 4 * frames, "bars");
@@ -279,8 +280,8 @@ mod tests {
             even_svg(0, (0, 0, 0), PLAN),
             even_svg(6, (0, 0, 0), none),
             even_svg(1, (u32::MAX, 0, i64::MAX), most()),
-            even_svg(2976, (400_000, u32::MAX, -13_000_000_000_000), most()),
-            even_svg(2976, (0, u32::MAX, i64::MIN), PLAN),
+            even_svg(MAX_FRAMES, (400_000, u32::MAX, -13_000_000_000_000), most()),
+            even_svg(MAX_FRAMES, (0, u32::MAX, i64::MIN), PLAN),
             svg(&Picture {
                 charges: &[i64::MIN, i64::MAX, 0, -1, 0, 1],
                 ..most()

@@ -157,7 +157,7 @@ mod tests {
         assert_eq!(frame_step(6), 1);
         assert_eq!(frame_step(96), 4);
         assert_eq!(frame_step(672), 48);
-        assert_eq!(frame_step(2976), 192);
+        assert_eq!(frame_step(3000), 192);
         assert_eq!(Scale::of_frames(6).ticks, [1.0, 2.0, 3.0, 4.0, 5.0, 6.0]);
     }
 }

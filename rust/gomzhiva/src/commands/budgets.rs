@@ -82,7 +82,7 @@ impl<'a> Budgets<'a> {
         Picture {
             title,
             capacity: figures.capacity,
-            needed: Linked.needed(figures.start, figures.end, &self.request.harvest).ok(),
+            needed: Linked.needed(figures, &self.request.harvest).ok(),
             start: figures.start,
             end: figures.end,
             harvest: &self.request.harvest,

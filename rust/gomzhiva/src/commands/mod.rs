@@ -9,7 +9,7 @@ use crate::cli::{Command, OutputArguments};
 use crate::failure::Failure;
 use crate::files::{print, Place};
 use crate::journal::is_no_journal;
-use crate::request::{read_budgets, RequestArguments};
+use crate::request::{read_budgets, Request, RequestArguments};
 use energy::{Energy, Linked};
 
 pub fn run(command: &Command) -> Result<(), Failure> {
@@ -26,8 +26,8 @@ pub fn run(command: &Command) -> Result<(), Failure> {
 }
 
 fn needed(request: &RequestArguments) -> Result<(), Failure> {
-    let ([start, end], harvest) = request.read()?.charges()?;
-    let needed = Linked.needed(start, end, &harvest)?;
+    let Request { figures, harvest } = request.read()?.without_capacity()?;
+    let needed = Linked.needed(figures, &harvest)?;
     print(&format!("needed capacity {needed} Wh\n"))
 }
 

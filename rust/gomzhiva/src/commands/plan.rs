@@ -54,7 +54,7 @@ fn refusal_in(listing: &str) -> Option<Refusal> {
 fn summary(request: &Request, plan: &Budgets<'_>) -> Result<String, Failure> {
     let figures = request.figures;
     let budgets = &plan.budgets;
-    let needed = Linked.needed(figures.start, figures.end, &request.harvest)?;
+    let needed = Linked.needed(figures, &request.harvest)?;
     Ok(format!(
         "{}: {} Wh harvested, {} Wh budgeted (mean {}, most {}).\n\
          The charge goes from {} to {} Wh, and is at most {} Wh after a frame, of a capacity of {} Wh.\n\

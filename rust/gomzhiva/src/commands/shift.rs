@@ -35,10 +35,9 @@ fn start(request: &RequestArguments, journal: &JournalArguments) -> Result<(), F
 fn record(harvest: u32, used: u32, frame: Option<u32>, journal: &JournalArguments) -> Result<(), Failure> {
     let mut journal = Journal::open(&journal.journal, Purpose::Record)?;
     let notice = journal.notice();
-    let Shift { frames, recorded, .. } = journal.running.shift;
-    let next = recorded + 1;
+    let next = journal.running.shift.now.recorded + 1;
     // After the last frame there is none to compare with, and the library refuses any recording.
-    let done = match frame.filter(|&frame| frame != next && recorded < frames) {
+    let done = match frame.filter(|&frame| frame != next && !is_finished(&journal.running.shift)) {
         None => journal.record(harvest, used),
         Some(frame) => Err(Failure::Fault(format!(
             "gomzhiva: --frame {frame}: the next frame is {next}; nothing is recorded"
@@ -66,22 +65,28 @@ fn look(journal: &JournalArguments) -> Result<Running, Failure> {
     Ok(running)
 }
 
+/// Whether every frame is recorded.
+fn is_finished(shift: &Shift) -> bool {
+    shift.now.recorded == shift.terms.frames
+}
+
 /// How a shift stands, in words.
 fn standing(shift: &Shift) -> String {
-    let finished = if shift.recorded == shift.frames {
-        format!(" Finished: {}.", ending(shift.charge.into(), shift.end))
+    let Shift { terms, now } = shift;
+    let finished = if is_finished(shift) {
+        format!(" Finished: {}.", ending(now.charge.into(), terms.end))
     } else {
         String::new()
     };
     format!(
         "{} of {} recorded; charge {} Wh of a capacity of {} Wh; {} Wh harvested, {} Wh used, {} Wh lost.{finished}",
-        shift.recorded,
-        counted(shift.frames as usize, "frame"),
-        shift.charge,
-        shift.capacity,
-        shift.harvested,
-        shift.used,
-        shift.lost,
+        now.recorded,
+        counted(terms.frames as usize, "frame"),
+        now.charge,
+        terms.capacity,
+        now.totals.harvested,
+        now.totals.used,
+        now.totals.lost,
     )
 }
 
@@ -106,7 +111,7 @@ fn plan(running: &Running, csv: bool) -> Result<(), Failure> {
     let (rest, budgets) = running.plan_rest()?;
     let request = rest_request(running);
     let traced = Budgets::trace(&request, budgets)?;
-    let table = traced.table(running.shift.recorded);
+    let table = traced.table(running.shift.now.recorded);
     let words = rest_words(rest, running, &traced);
     if !csv {
         return print(&format!("{}\n{words}\n", table.aligned()));
@@ -118,14 +123,12 @@ fn plan(running: &Running, csv: bool) -> Result<(), Failure> {
 
 /// What is left of a shift as a request: the present charge is its start charge.
 fn rest_request(running: &Running) -> Request {
-    let Shift {
-        capacity, charge, end, ..
-    } = running.shift;
+    let Shift { terms, now } = running.shift;
     Request {
         figures: Figures {
-            capacity,
-            start: charge,
-            end,
+            capacity: terms.capacity,
+            start: now.charge,
+            end: terms.end,
         },
         harvest: running.rest_harvest().to_vec(),
     }
@@ -133,11 +136,11 @@ fn rest_request(running: &Running) -> Request {
 
 /// The plan of the rest in words.
 fn rest_words(rest: Rest, running: &Running, traced: &Budgets<'_>) -> String {
-    let Shift { charge, end, .. } = running.shift;
+    let Figures { start, end, .. } = traced.request.figures;
     let left = counted(traced.budgets.len(), "frame");
     match rest {
         Rest::Planned => format!(
-            "{left} left: {} Wh expected, {} Wh budgeted (mean {}). The charge goes from {charge} to {} Wh.",
+            "{left} left: {} Wh expected, {} Wh budgeted (mean {}). The charge goes from {start} to {} Wh.",
             sum(running.rest_harvest()),
             sum(&traced.budgets),
             mean(&traced.budgets),
@@ -151,8 +154,9 @@ fn rest_words(rest: Rest, running: &Running, traced: &Budgets<'_>) -> String {
 
 /// What a finished shift's charge misses, in words.
 fn missed_end(shift: &Shift) -> Option<String> {
-    let missed = shift.recorded == shift.frames && shift.charge < shift.end;
-    missed.then(|| ending(shift.charge.into(), shift.end))
+    let (charge, end) = (shift.now.charge, shift.terms.end);
+    let missed = is_finished(shift) && charge < end;
+    missed.then(|| ending(charge.into(), end))
 }
 
 /// Tells what standard output has no place for.
@@ -180,10 +184,8 @@ fn chart(journal: &JournalArguments, output: &OutputArguments) -> Result<(), Fai
             .iter()
             .fold(title, |title, warning| format!("{title}; {warning}")),
         capacity: rest.figures.capacity,
-        needed: Linked
-            .needed(rest.figures.start, rest.figures.end, running.rest_harvest())
-            .ok(),
-        start: running.shift.start,
+        needed: Linked.needed(rest.figures, running.rest_harvest()).ok(),
+        start: running.shift.terms.start,
         end: rest.figures.end,
         harvest: &harvest,
         budgets: &[running.column(|r| r.used), budgets].concat(),

@@ -34,7 +34,7 @@ impl Running {
         self.recorded.push(Recorded {
             harvest,
             used,
-            charge: self.shift.charge,
+            charge: self.shift.now.charge,
         });
         Ok(())
     }

@@ -89,9 +89,12 @@ impl Draft {
         Ok((which.map(|which| self.figures[which].unwrap_or_default()), self.harvest))
     }
 
-    /// What the needed capacity depends on: start and end charge, and the harvests.
-    pub fn charges(self) -> Result<([u32; 2], Vec<u32>), Failure> {
-        self.take([START, END])
+    /// What the needed capacity depends on: the request with any capacity, here 0.
+    pub fn without_capacity(self) -> Result<Request, Failure> {
+        let ([start, end], harvest) = self.take([START, END])?;
+        let capacity = 0;
+        let figures = Figures { capacity, start, end };
+        Ok(Request { figures, harvest })
     }
 
     /// The whole request.
@@ -100,6 +103,12 @@ impl Draft {
         let figures = Figures { capacity, start, end };
         Ok(Request { figures, harvest })
     }
+}
+
+/// Figures in the order of their names.
+fn in_order(figures: Figures) -> [u32; FIGURES.len()] {
+    let Figures { capacity, start, end } = figures;
+    [capacity, start, end]
 }
 
 impl Request {
@@ -113,9 +122,8 @@ impl Request {
 
     /// The request as text.
     pub fn text(&self) -> String {
-        let Figures { capacity, start, end } = self.figures;
         let mut text = String::new();
-        for (name, value) in FIGURES.iter().zip([capacity, start, end]) {
+        for (name, value) in FIGURES.iter().zip(in_order(self.figures)) {
             text += &format!("{name} {value}\n");
         }
         text += "harvest\n";
@@ -156,10 +164,9 @@ fn from_words(bytes: Vec<u8>, name: String) -> Result<Draft, Failure> {
         let why = format!("{name} has a byte 0 and so is no text (a spreadsheet is read as CSV in UTF-8)");
         Failure::from(refusal).with(&why)
     })?;
-    harvest.truncate(read.frames as usize);
-    let Figures { capacity, start, end } = read.figures;
+    harvest.truncate(read.frames);
     Ok(Draft {
-        figures: [capacity, start, end].map(Some),
+        figures: in_order(read.figures).map(Some),
         harvest,
         word_file: Some(bytes),
         name,
@@ -172,7 +179,7 @@ fn from_text(bytes: &[u8], name: String) -> Result<Draft, Failure> {
     let mut sheet = sheet::parse(&text).map_err(|fault| fault.of(&name))?;
     let harvest = sheet.list(HARVEST).map_err(|fault| fault.of(&name))?;
     Ok(Draft {
-        figures: [CAPACITY, START, END].map(|which| sheet.figure(which)),
+        figures: sheet.figures(),
         harvest,
         word_file: None,
         name,

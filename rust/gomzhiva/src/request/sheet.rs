@@ -40,9 +40,9 @@ pub struct Sheet {
 }
 
 impl Sheet {
-    /// The figure, if the text has it.
-    pub fn figure(&self, which: usize) -> Option<u32> {
-        self.figures[which].map(|(value, _)| value)
+    /// Each figure, if the text has it.
+    pub fn figures(&self) -> [Option<u32>; FIGURES.len()] {
+        self.figures.map(|figure| figure.map(|(value, _)| value))
     }
 
     /// The list, or what is wrong where the text has no such column.
@@ -281,10 +281,10 @@ mod tests {
 
     const DAY: &str = "capacity 5\nstart 2\nend 2\nharvest\n6\n4      # noon\n";
 
-    fn said(text: &str) -> (Option<u32>, Option<u32>, Option<u32>, Vec<u32>) {
+    fn said(text: &str) -> ([Option<u32>; FIGURES.len()], Vec<u32>) {
         let mut sheet = parse(text).unwrap();
         let harvest = sheet.list(HARVEST).unwrap();
-        (sheet.figure(CAPACITY), sheet.figure(START), sheet.figure(END), harvest)
+        (sheet.figures(), harvest)
     }
 
     fn fault(text: &str) -> String {
@@ -295,7 +295,7 @@ mod tests {
     #[test]
     fn one_request_in_every_dress() {
         let day = said(DAY);
-        assert_eq!(day, (Some(5), Some(2), Some(2), vec![6, 4]));
+        assert_eq!(day, ([Some(5), Some(2), Some(2)], vec![6, 4]));
         for text in [
             "\u{feff}capacity 5\r\nstart 2\r\nend 2\r\nharvest\r\n6\r\n4",
             "capacity,5\nstart,2\nend,2\nharvest\n6\n4\n",
@@ -307,11 +307,11 @@ mod tests {
         ] {
             assert_eq!(said(text), day, "{text:?}");
         }
-        assert_eq!(said("harvest\n"), (None, None, None, vec![]));
-        assert_eq!(said("#capacity 7\ntime\tharvest #a\n\"6 h\"\t6 #b\n# noon\n").3, [6]);
-        assert_eq!(said("frame harvest\n1 6 #noon\n\n2 4\n").3, [6, 4]);
-        assert_eq!(said("\"\"\n\"harvest\",\"\"\n\"6\",\"\"\n\"\",\"\"\n").3, [6]);
-        assert_eq!(said("\"capacity\",\"5\",\"\"\n\tharvest\n\t6\n").3, [6]);
+        assert_eq!(said("harvest\n"), ([None; FIGURES.len()], vec![]));
+        assert_eq!(said("#capacity 7\ntime\tharvest #a\n\"6 h\"\t6 #b\n# noon\n").1, [6]);
+        assert_eq!(said("frame harvest\n1 6 #noon\n\n2 4\n").1, [6, 4]);
+        assert_eq!(said("\"\"\n\"harvest\",\"\"\n\"6\",\"\"\n\"\",\"\"\n").1, [6]);
+        assert_eq!(said("\"capacity\",\"5\",\"\"\n\tharvest\n\t6\n").1, [6]);
     }
 
     #[test]

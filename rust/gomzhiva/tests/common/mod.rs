@@ -1,7 +1,7 @@
 //! The built program, run as a person would run it, in a folder of its own.
 #![allow(dead_code)] // each test file uses a part
 
-use energy::Shift;
+use energy::{Shift, Totals};
 use proptest::prelude::*;
 use proptest::test_runner::{RngAlgorithm, TestRng, TestRunner};
 use std::fs::{self, Permissions};
@@ -46,21 +46,23 @@ pub fn column(list: &[u32]) -> String {
 
 /// How a shift stands, in the words of its answers.
 pub fn standing(shift: &Shift) -> String {
-    let frames = if shift.frames == 1 { "frame" } else { "frames" };
-    let finished = if shift.recorded < shift.frames {
+    let Shift { terms, now } = shift;
+    let frames = if terms.frames == 1 { "frame" } else { "frames" };
+    let finished = if now.recorded < terms.frames {
         String::new()
-    } else if shift.charge < shift.end {
-        let below = format!("below the end charge of {} Wh", shift.end);
-        format!(" Finished: the charge ends at {} Wh, {below}.", shift.charge)
+    } else if now.charge < terms.end {
+        let below = format!("below the end charge of {} Wh", terms.end);
+        format!(" Finished: the charge ends at {} Wh, {below}.", now.charge)
     } else {
         format!(
             " Finished: the charge ends at {} Wh, and {} Wh were asked for.",
-            shift.charge, shift.end
+            now.charge, terms.end
         )
     };
+    let Totals { harvested, used, lost } = now.totals;
     format!(
-        "{} of {} {frames} recorded; charge {} Wh of a capacity of {} Wh; {} Wh harvested, {} Wh used, {} Wh lost.{finished}\n",
-        shift.recorded, shift.frames, shift.charge, shift.capacity, shift.harvested, shift.used, shift.lost
+        "{} of {} {frames} recorded; charge {} Wh of a capacity of {} Wh; {harvested} Wh harvested, {used} Wh used, {lost} Wh lost.{finished}\n",
+        now.recorded, terms.frames, now.charge, terms.capacity
     )
 }
 

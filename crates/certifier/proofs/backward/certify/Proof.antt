@@ -1,7 +1,8 @@
--- The backward check: before each frame it holds the reserves of its level, and the levels from there on are in order.
+-- Before each frame the pass holds the exact reserves of its level and of one more (`Holds`), so the tests of one
+-- frame more are that frame's certificate (`weighed-on`).
 use mathlib.Core.Path.{_≡_, refl, _∙_}
 use mathlib.Core.Bool.{false≢true}
-use Prim.Native.Nat.{_+_, _-_, _*_, _≤_, _<_, _^_}
+use Prim.Native.Nat.{_+_, _-_, _*_, _≤_, _<_}
 use native.Mathlib.Omega.{arith}
 use lib.ListN.{length, length-set}
 use mir.Syntax.{w64}
@@ -71,7 +72,8 @@ loop-again c =
     let fs = frames (a .rule) (a .harvest .now) in
     let k : l .k - 1 + 1 ≡ l .k = omega (arith, test .loop-test .taken) in
     let here : l .k - 1 < length (a .levels .now) = omega (arith, test .loop-test .taken, l .inv .0, s .pre .1) in
-    let on = law.weighed-on {e = a .rule .end} {fs = fs} {ls = a .levels .now} (frame .frame-at .result) (wide .wide .result) (l .w) (v .result)
+    let on = law.weighed-on {e = a .rule .end} {fs = fs} {ls = a .levels .now} (frame .frame-at .result)
+    (wide .wide .result) (l .w) (v .result)
     (frame .frame-at .ensures) (rw k (l .inv .3)) (v .ensures (e .if1 .left)) here (wide .wide .ensures .0) (l .after)
     (omega (arith, test .loop-test .taken, l .inv .0, l .inv .1, s .pre .2)) (rw k (l .inv .4)) in (
       omega (arith, l .inv .0),
@@ -94,24 +96,7 @@ returns-2 c =
 pub certify-spec : {M : Type 1} → statement M
 certify-spec =
     tie.close
-    (tie.spec
-    Inv-loop
-    μ-loop
-    (λ c κs. search needs)
-    loop-holds
-    (λ c. search needs)
-    (λ c κs. search needs)
-    (λ c. search needs)
-    (λ c. search needs)
-    (λ c κs. search needs)
-    weigh-requires
-    (λ c. search needs)
-    returns
-    cast-after
-    mul-after
-    (λ c. search needs)
-    (λ c. search needs)
-    loop-again
-    (λ c κs. search needs)
-    (λ c. search needs)
-    returns-2)
+    (tie.spec Inv-loop μ-loop (λ c κs. search needs) loop-holds (λ c. search needs) (λ c κs. search needs)
+    (λ c. search needs) (λ c. search needs) (λ c κs. search needs) weigh-requires (λ c. search needs) returns
+    cast-after mul-after (λ c. search needs) (λ c. search needs) loop-again (λ c κs. search needs)
+    (λ c. search needs) returns-2)

@@ -1,4 +1,4 @@
--- From a level to the next: where they differ, the test that was passed says so.
+-- Where the levels differ, the flag that is not raised is the test that the store is empty or full.
 use native.Mathlib.Omega.{arith}
 use borrow.Author.Needs.{needs}
 use borrow.Author.Tests.{ltb-false}
@@ -12,4 +12,5 @@ returns-2 : tie.Need-returns-2
 returns-2 c = (omega arith, omega arith, λ z. omega (arith, ltb-false))
 
 pub turn-spec : {M : Type 1} → statement M
-turn-spec = tie.close (tie.spec returns returns-2 (λ c. search needs))
+turn-spec =
+    tie.close (tie.spec returns returns-2 (λ c. search needs))

@@ -1,6 +1,6 @@
--- The forward pass: what is written, with the plan of the rest, is the plan, and the levels from there on are certified.
-use mathlib.Core.Path.{ap}
-use Prim.Native.Nat.{ℕ, _-_, _<_}
+-- At a certified level the frame spends the plan's budget and leaves a charge between the level's reserves
+-- (`follows`), so what is written, with the plan of the rest, stays the plan.
+use Prim.Native.Nat.{_-_}
 use native.Mathlib.Omega.{arith}
 use lib.ListN.{length}
 use borrow.Author.Needs.{needs}
@@ -24,80 +24,55 @@ loop-holds : tie.Need-loop-holds Inv-loop μ-loop
 loop-holds c =
     let s = c .before .before .before in
     let a = s .args in
-    (writing-start (a .rule .end) (frames (a .rule) (a .harvest .now)) (length (a .harvest .now)) (a .start) (a .budgets .now) (s .pre .2) (s .pre .1) (s .pre .4), s .pre .5)
+    let lent = s .pre .0 in (
+      writing-start (a .rule .end) (frames (a .rule) (a .harvest .now)) (length (a .harvest .now)) (a .start)
+          (a .budgets .now) (lent .1) (lent .0 .start-fits) (lent .0 .able),
+      s .pre .1,
+    )
 
-sub-have : tie.Need-sub-have Inv-loop μ-loop
-sub-have c =
-    let lesser = c .before in
-    let frame = lesser .before .before in
-    let l = frame .before .before in
-    rw (lesser .lesser .ensures) (allows (l .before .before .before .before .args .rule .end) (frame .frame-at .ensures) (l .loop .inv .0 .able) .drains)
+has-requires : tie.Need-has-requires Inv-loop μ-loop
+has-requires c κs =
+    let l = c .before .before in
+    let read = c .frame-at .ensures in
+    let writing = l .loop .inv .0 in
+    let end = l .before .before .before .before .args .rule .end in
+    (read .plain, writing .charge-fits, allows end read (writing .able) .drains)
 
--- the frame just spent
+-- what the frame just spent
 followed : (c : tie.After-spend Inv-loop μ-loop) →
-    let lesser = c .before .before .before .before .before .before in
-    let frame = lesser .before .before in
-    let l = frame .before .before in
+    let has = c .before .before .before .before .before in
+    let l = has .before .before .before in
     let a = l .before .before .before .before .args in
-    law.Follows (a .rule .end) (frames (a .rule) (a .harvest .now)) (l .loop .i) (l .loop .y) (lesser .lesser .result - frame .frame-at .result .drain) (c .spend .result) (l .loop .budgets) (a .after .now)
+    law.Follows (a .rule .end) (frames (a .rule) (a .harvest .now)) (l .loop .i) (l .loop .y) (has .has .result)
+    (c .spend .result) (l .loop .budgets) (a .after .now)
 followed c =
-    let reserve = c .before in
-    let level = reserve .before .before in
-    let lesser = level .before .before .before in
-    let frame = lesser .before .before in
-    let test = frame .before in
-    let l = test .before in
-    let s = l .before .before .before .before in
-    let f = frame .frame-at .result in
-    law.follows (l .loop .budgets) (s .args .after .now) (frame .frame-at .ensures) (l .loop .inv .0 .able)
-    (ap (λ (n : ℕ). n - f .drain) (lesser .lesser .ensures))
-    (omega (arith, test .loop-test .taken, l .loop .inv .0 .same-length))
-    (omega (arith, test .loop-test .taken, s .pre .3))
-    (l .loop .inv .1) (level .wide .ensures .0) (reserve .wide2 .ensures .0) (c .spend .ensures)
-
-cast-budgets : tie.Need-cast-budgets Inv-loop μ-loop
-cast-budgets c = omega (arith, followed c .step .fits)
-
-sub-y : tie.Need-sub-y Inv-loop μ-loop
-sub-y c = followed c .have
+    let level = c .before .before .before in
+    let has = level .before .before in
+    let test = has .before .before in
+    let l = test .before .loop in
+    let s = test .before .before .before .before .before in
+    law.follows (l .budgets) (s .args .after .now) (has .before .frame-at .ensures) (l .inv .0 .able)
+    (has .has .ensures) (omega (arith, test .loop-test .taken, l .inv .0 .same-length))
+    (omega (arith, test .loop-test .taken, s .pre .0 .2)) (l .inv .1) (level .wide .ensures .0)
+    (c .before .wide2 .ensures .0) (c .spend .ensures)
 
 loop-again : tie.Need-loop-again Inv-loop μ-loop
 loop-again c =
     let f = followed c in
-    let test = c .before .before .before .before .before .before .before .before .before in
+    let test = c .before .before .before .before .before .before .before in
     (writing-on (test .before .loop .inv .0) (test .loop-test .taken) (f .step) (f .charge-fits), f .certified)
 
 returns : tie.Need-returns Inv-loop μ-loop
 returns c =
     let l = c .before in
     let a = l .before .before .before .before .args in
-    let past = frames-past (a .rule) (a .harvest .now) (l .loop .i) (c .loop-test .left) in
-    writing-done (l .loop .inv .0) past (c .loop-test .left)
+    let left = c .loop-test .left in
+    writing-done (l .loop .inv .0) (frames-past (a .rule) (a .harvest .now) (l .loop .i) left) left
 
 pub follow-spec : {M : Type 1} → statement M
 follow-spec =
     tie.close
-    (tie.spec
-    Inv-loop
-    μ-loop
-    loop-holds
-    (λ c κs. search needs)
-    (λ c. search needs)
-    (λ c κs. search needs)
-    sub-have
-    (λ c. search needs)
-    (λ c. search needs)
-    (λ c κs. search needs)
-    (λ c. search needs)
-    (λ c. search needs)
-    (λ c κs. search needs)
-    (λ c κs. search needs)
-    cast-budgets
-    (λ c. search needs)
-    (λ c. search needs)
-    sub-y
-    (λ c. search needs)
-    (λ c. search needs)
-    loop-again
-    (λ c. search needs)
-    returns)
+    (tie.spec Inv-loop μ-loop loop-holds (λ c κs. search needs) has-requires (λ c. search needs) (λ c. search needs)
+    (λ c κs. search needs) (λ c. search needs) (λ c. search needs) (λ c κs. search needs) (λ c κs. search needs)
+    (λ c. omega (arith, followed c .step .fits)) (λ c. search needs) (λ c. search needs) (λ c. followed c .have)
+    (λ c. search needs) (λ c. search needs) loop-again (λ c. search needs) returns)

@@ -1,4 +1,5 @@
--- The backward pass of requirements: before each frame it holds what the rest requires.
+-- From behind, a frame requires what it takes and what the rest requires, less its inflow: the definition's own
+-- recursion.
 use mathlib.Core.Path.{_≡_}
 use Prim.Native.Nat.{_+_, _-_, _*_, _≤_, _<_, _^_}
 use native.Mathlib.Omega.{arith}
@@ -12,7 +13,8 @@ use Rattle.certifier.proofs.requirement.peak_requirement.Tie as tie
 
 abbrev Inv-loop : tie.InvT-loop
 Inv-loop rule harvest budgets charge₀ top₀ k₀ charge top k =
-    (k ≤ length harvest) × (charge ≤ 2 ^ 34 * (length harvest - k + 1)) × law.Required (rule .end) (frames rule harvest) budgets k charge top
+    (k ≤ length harvest) × (charge ≤ 2 ^ 34 * (length harvest - k + 1)) × law.Required (rule .end)
+    (frames rule harvest) budgets k charge top
 
 abbrev μ-loop : tie.MeasureT-loop
 μ-loop rule harvest budgets charge₀ top₀ k₀ charge top k = k
@@ -24,7 +26,8 @@ loop-holds c =
     let n = length (a .harvest .now) in (
       omega arith,
       omega (arith, s .pre .0 .end-fits),
-      law.requires-end (a .rule .end) (frames (a .rule) (a .harvest .now)) (a .budgets .now) n (frames-past (a .rule) (a .harvest .now) n (omega arith)),
+      law.requires-end (a .rule .end) (frames (a .rule) (a .harvest .now)) (a .budgets .now) n
+          (frames-past (a .rule) (a .harvest .now) n (omega arith)),
     )
 
 loop-again : tie.Need-loop-again Inv-loop μ-loop
@@ -36,11 +39,20 @@ loop-again c =
     let l = test .before .loop in
     let s = test .before .before .before .before in
     let k : l .k - 1 + 1 ≡ l .k = omega (arith, test .loop-test .taken) in
-    let here : l .k - 1 < length (s .args .budgets .now) = omega (arith, test .loop-test .taken, l .inv .0, s .pre .1) in
+    let here : l .k - 1 < length (s .args .budgets .now) = omega
+    (arith, test .loop-test .taken, l .inv .0, s .pre .1) in
     let f = frame .frame-at .ensures in (
       omega (arith, l .inv .0),
-      omega (arith, test .loop-test .taken, l .inv .0, l .inv .1, c .required .ensures, f .plain .drain-fits, budget .wide .ensures .1),
-      rw (c .required .ensures, top .greater .ensures)
+      omega (
+        arith,
+        test .loop-test .taken,
+        l .inv .0,
+        l .inv .1,
+        c .less .ensures,
+        f .plain .drain-fits,
+        budget .wide .ensures .1,
+      ),
+      rw (c .less .ensures, top .greater .ensures)
           (law.requires-on (s .args .budgets .now) f here (budget .wide .ensures .0) (rw k (l .inv .2))),
     )
 
@@ -53,19 +65,6 @@ returns c =
 pub peak-requirement-spec : {M : Type 1} → statement M
 peak-requirement-spec =
     tie.close
-    (tie.spec
-    Inv-loop
-    μ-loop
-    loop-holds
-    (λ c. search needs)
-    (λ c κs. search needs)
-    (λ c κs. search needs)
-    (λ c. search needs)
-    (λ c. search needs)
-    (λ c κs. search needs)
-    (λ c. search needs)
-    (λ c. search needs)
-    (λ c κs. search needs)
-    (λ c. search needs)
-    loop-again
-    returns)
+    (tie.spec Inv-loop μ-loop loop-holds (λ c. search needs) (λ c κs. search needs) (λ c κs. search needs)
+    (λ c. search needs) (λ c. search needs) (λ c κs. search needs) (λ c. search needs) (λ c. search needs)
+    (λ c κs. search needs) (λ c. search needs) loop-again returns)

@@ -1,4 +1,4 @@
--- The worth of one budget. Invariant: what is earned so far and the bands that are left are the worth.
+-- What is earned so far and the bands that are left stay the worth, which is a sum over bands (`worth-bands`).
 use mathlib.Core.Path.{_≡_}
 use Prim.Native.Nat.{_*_, _+_, _-_, _≤_}
 use native.Mathlib.Omega.{arith}
@@ -11,7 +11,9 @@ use Rattle.grader.proofs.Bands as law
 use Rattle.grader.proofs.curves.budget_worth.Tie as tie
 
 abbrev Inv-loop : tie.InvT-loop
-Inv-loop curve budget all sum₀ from₀ band₀ sum from band = (band ≤ 4) × (sum + bands budget from (drop band (houseCurve curve .edges)) (drop band (houseCurve curve .gains)) ≡ worth (houseCurve curve) budget)
+Inv-loop curve budget all sum₀ from₀ band₀ sum from band =
+    (band ≤ 4) × (sum + bands budget from (drop band (houseCurve curve .edges))
+    (drop band (houseCurve curve .gains)) ≡ worth (houseCurve curve) budget)
 
 abbrev μ-loop : tie.MeasureT-loop
 μ-loop curve budget all sum₀ from₀ band₀ sum from band = 4 - band
@@ -19,17 +21,9 @@ abbrev μ-loop : tie.MeasureT-loop
 loop-holds : tie.Need-loop-holds Inv-loop μ-loop
 loop-holds c = omega (arith, house-bands (c .args .curve) (c .args .budget))
 
-edge-requires : tie.Need-edge-requires Inv-loop μ-loop
-edge-requires c κs = search needs
-
-gain-requires : tie.Need-gain-requires Inv-loop μ-loop
-gain-requires c κs = search needs
-
-units-requires : tie.Need-units-requires Inv-loop μ-loop
-units-requires c κs = search needs
-
 -- what the budget can be worth at most
-bounded : (c : tie.Start Inv-loop μ-loop) → worth (houseCurve (c .args .curve)) (c .args .budget) ≤ 24 * c .args .budget
+bounded : (c : tie.Start Inv-loop μ-loop) →
+    worth (houseCurve (c .args .curve)) (c .args .budget) ≤ 24 * c .args .budget
 bounded c = worth-bound (c .args .curve) (c .args .budget)
 
 -- the sum after a band and what is left are the worth
@@ -38,12 +32,14 @@ stepped : (c : tie.After-units Inv-loop μ-loop)
     let a = l .before .args in
     let row = houseCurve (a .curve) in
     l .loop .sum + c .before .gain .result * c .units .result
-    + bands (a .budget) (c .before .before .edge .result) (drop (l .loop .band + 1) (row .edges)) (drop (l .loop .band + 1) (row .gains))
+    + bands (a .budget) (c .before .before .edge .result) (drop (l .loop .band + 1) (row .edges))
+    (drop (l .loop .band + 1) (row .gains))
     ≡ worth row (a .budget)
 stepped c =
     let l = c .before .before .before .before in
     let a = l .before .args in
-    law.band-step (a .curve) (a .budget) (l .loop .from) (l .loop .band) (l .loop .sum) (c .before .before .edge .result) (c .before .gain .result) (c .units .result)
+    law.band-step (a .curve) (a .budget) (l .loop .from) (l .loop .band) (l .loop .sum)
+    (c .before .before .edge .result) (c .before .gain .result) (c .units .result)
     (omega arith) (l .loop .inv .1) (c .before .before .edge .ensures) (c .before .gain .ensures) (c .units .ensures)
 
 mul-sum : tie.Need-mul-sum Inv-loop μ-loop
@@ -52,20 +48,8 @@ mul-sum c = omega (arith, stepped c, bounded (c .before .before .before .before 
 add-sum : tie.Need-add-sum Inv-loop μ-loop
 add-sum c = omega (arith, stepped c, bounded (c .before .before .before .before .before))
 
-add-band : tie.Need-add-band Inv-loop μ-loop
-add-band c = search needs
-
-loop-less : tie.Need-loop-less Inv-loop μ-loop
-loop-less c = search needs
-
 loop-again : tie.Need-loop-again Inv-loop μ-loop
 loop-again c = (omega arith, stepped c)
-
-gain-requires-2 : tie.Need-gain-requires-2 Inv-loop μ-loop
-gain-requires-2 c κs = search needs
-
-units-requires-2 : tie.Need-units-requires-2 Inv-loop μ-loop
-units-requires-2 c κs = search needs
 
 -- the sum with the last band is the worth
 ended : (c : tie.After-units2 Inv-loop μ-loop)
@@ -75,7 +59,8 @@ ended : (c : tie.After-units2 Inv-loop μ-loop)
 ended c =
     let l = c .before .before .before in
     let a = l .before .args in
-    law.band-end (a .curve) (a .budget) (l .loop .from) (l .loop .band) (l .loop .sum) (c .before .gain2 .result) (c .units2 .result)
+    law.band-end (a .curve) (a .budget) (l .loop .from) (l .loop .band) (l .loop .sum) (c .before .gain2 .result)
+    (c .units2 .result)
     (omega arith) (l .loop .inv .1) (c .before .gain2 .ensures) (c .units2 .ensures)
 
 mul-result : tie.Need-mul-result Inv-loop μ-loop
@@ -94,16 +79,16 @@ budget-worth-spec =
     Inv-loop
     μ-loop
     loop-holds
-    edge-requires
-    gain-requires
-    units-requires
+    (λ c κs. search needs)
+    (λ c κs. search needs)
+    (λ c κs. search needs)
     mul-sum
     add-sum
-    add-band
-    loop-less
+    (λ c. search needs)
+    (λ c. search needs)
     loop-again
-    gain-requires-2
-    units-requires-2
+    (λ c κs. search needs)
+    (λ c κs. search needs)
     mul-result
     add-result
     returns)

@@ -1,4 +1,4 @@
--- An edge of the table is the house curve's.
+-- One test over the whole table found each entry the house curve's, so the one that is read is.
 use Prim.Native.Nat.{ℕ}
 use native.Mathlib.Omega.{arith}
 use borrow.Author.Needs.{needs}
@@ -7,20 +7,9 @@ use Rattle.model.specs.Curves.{houseCurve}
 use Rattle.grader.proofs.Bands as law
 use Rattle.grader.proofs.curves.edge.Tie as tie
 
-mul-result : tie.Need-mul-result
-mul-result c = search needs
-
-mul-result-2 : tie.Need-mul-result-2
-mul-result-2 c = search needs
-
-index-1-result : tie.Need-index-1-result
-index-1-result c = search needs
-
-index-2-result : tie.Need-index-2-result
-index-2-result c = search needs
-
 returns : tie.Need-returns
 returns c = law.entry (λ (n : ℕ). houseCurve n .edges) (c .before .args .curve) (c .before .args .band) (omega arith)
 
 pub edge-spec : {M : Type 1} → statement M
-edge-spec = tie.close (tie.spec mul-result mul-result-2 index-1-result index-2-result returns)
+edge-spec = tie.close
+    (tie.spec (λ c. search needs) (λ c. search needs) (λ c. search needs) (λ c. search needs) returns)

@@ -1,4 +1,4 @@
--- The worth of a list. Invariant: the sum so far and the grade of what is left are the whole.
+-- The sum so far and the grade of what is left stay the whole, and few budgets are worth less than 2^64.
 use mathlib.Core.Path.{_≡_}
 use Prim.Native.Nat.{_+_, _-_, _*_, _≤_, _^_}
 use native.Mathlib.Omega.{arith}
@@ -10,31 +10,15 @@ use Rattle.grader.proofs.Bands as law
 use Rattle.grader.proofs.lists.list_worth.Tie as tie
 
 abbrev Inv-loop : tie.InvT-loop
-Inv-loop curve budgets sum₀ i₀ sum i = (i ≤ length budgets) × (sum ≤ 24 * 2 ^ 32 * i) × (sum + grade (houseCurve curve) (drop i budgets) ≡ grade (houseCurve curve) budgets)
+Inv-loop curve budgets sum₀ i₀ sum i =
+    (i ≤ length budgets) × (sum ≤ 24 * 2 ^ 32 * i) ×
+    (sum + grade (houseCurve curve) (drop i budgets) ≡ grade (houseCurve curve) budgets)
 
 abbrev μ-loop : tie.MeasureT-loop
 μ-loop curve budgets sum₀ i₀ sum i = length budgets - i
 
-loop-holds : tie.Need-loop-holds Inv-loop μ-loop
-loop-holds c = search needs
-
-mul-budget-worth : tie.Need-mul-budget-worth Inv-loop μ-loop
-mul-budget-worth c = search needs
-
-shared-slice-read-budget-worth : tie.Need-shared-slice-read-budget-worth Inv-loop μ-loop
-shared-slice-read-budget-worth c = search needs
-
-budget-worth-requires : tie.Need-budget-worth-requires Inv-loop μ-loop
-budget-worth-requires c κs = search needs
-
 add-sum : tie.Need-add-sum Inv-loop μ-loop
 add-sum c = omega (arith, c .before .shared-slice-known2 .given (c .before .before .before .loop .i))
-
-add-i : tie.Need-add-i Inv-loop μ-loop
-add-i c = search needs
-
-loop-less : tie.Need-loop-less Inv-loop μ-loop
-loop-less c = search needs
 
 loop-again : tie.Need-loop-again Inv-loop μ-loop
 loop-again c =
@@ -55,12 +39,12 @@ list-worth-spec =
     (tie.spec
     Inv-loop
     μ-loop
-    loop-holds
-    mul-budget-worth
-    shared-slice-read-budget-worth
-    budget-worth-requires
+    (λ c. search needs)
+    (λ c. search needs)
+    (λ c. search needs)
+    (λ c κs. search needs)
     add-sum
-    add-i
-    loop-less
+    (λ c. search needs)
+    (λ c. search needs)
     loop-again
     returns)

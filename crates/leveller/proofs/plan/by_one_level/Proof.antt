@@ -1,4 +1,5 @@
--- One level that the first frames can draw, certified and followed.
+-- The guess keeps the lists' lengths, so its levels are tried as they were lent; a guess that was not made promises
+-- nothing.
 use mathlib.Core.Path.{refl}
 use mathlib.Core.Bool.{false≢true}
 use borrow.Author.Needs.{needs}
@@ -11,11 +12,5 @@ returns-2 c = (refl, c .before .before .before .one-level .ensures, λ z. absurd
 pub by-one-level-spec : {M : Type 1} → statement M
 by-one-level-spec =
     tie.close
-    (tie.spec
-    (λ c κs. search needs)
-    (λ c κs. search needs)
-    (λ c. search needs)
-    (λ c. search needs)
-    (λ c. search needs)
-    (λ c. search needs)
-    returns-2)
+    (tie.spec (λ c κs. search needs) (λ c κs. search needs) (λ c. search needs) (λ c. search needs)
+    (λ c. search needs) (λ c. search needs) returns-2)

@@ -1,4 +1,5 @@
--- The figures of the request make a rule by which it can be planned, with lists that are long enough.
+-- An end charge that can be kept and reached makes a plan that can be drawn (`startable`), and the lists are long
+-- enough.
 use borrow.Author.Needs.{needs}
 use Rattle.leveller.proofs.Start as law
 use Rattle.leveller.proofs.plan.plan_into.Statement.{statement}
@@ -22,13 +23,5 @@ plan-month-requires c κs =
 pub plan-into-spec : {M : Type 1} → statement M
 plan-into-spec =
     tie.close
-    (tie.spec
-    plan-day-requires
-    (λ c. search needs)
-    (λ c. search needs)
-    plan-week-requires
-    (λ c. search needs)
-    (λ c. search needs)
-    plan-month-requires
-    (λ c. search needs)
-    (λ c. search needs))
+    (tie.spec plan-day-requires (λ c. search needs) (λ c. search needs) plan-week-requires (λ c. search needs)
+    (λ c. search needs) plan-month-requires (λ c. search needs) (λ c. search needs))

@@ -1,37 +1,56 @@
--- `listing::listings::list` meets its contract.
-use Rattle.listing.proofs.Means as law
+-- The reader's answer decides: the listing of the request that was read, or its refusal.
+use Prim.Native.Nat.{ℕ, _-_}
+use native.Mathlib.Omega.{arith}
+use lib.ListN.{length-replicate}
+use Rattle.model.specs.Limits.{maxFrames}
+use Rattle.text.proofs.Written.{wrote-same}
+use Rattle.listing.proofs.Read as law
 use borrow.Author.Needs.{needs}
 use Rattle.listing.proofs.listings.list.Statement.{statement}
 use Rattle.listing.proofs.listings.list.Tie as tie
 
-slice-aggregate-list-file : tie.Need-slice-aggregate-list-file
-slice-aggregate-list-file c = search needs
-
-slice-aggregate-list-file-2 : tie.Need-slice-aggregate-list-file-2
-slice-aggregate-list-file-2 c = search needs
-
-slice-aggregate-list-file-3 : tie.Need-slice-aggregate-list-file-3
-slice-aggregate-list-file-3 c = search needs
-
-list-file-requires : tie.Need-list-file-requires
-list-file-requires c κs = search needs
-
-same-length : tie.Need-same-length
-same-length c = search needs
+part-list-request-end : tie.Need-part-list-request-end
+part-list-request-end c =
+    let g = c .before .before .before in
+    let d = g .before .before .before in
+    let k = law.is-read (d .read .ensures) (length-replicate {A = ℕ} maxFrames 0) (g .answer .given .0 .0)
+    (g .answer .given .1) (omega arith) in
+    omega (arith, k .0)
 
 returns : tie.Need-returns
 returns c =
-    let b = c .before .before .before .before .before in
-    let a = b .before .before .before .before .before .before .before in
-    law.list-says (a .args .file .now) (a .args .out .now) (b .list-file .last .1 .1 .1 .1 .0) (b .list-file .result) (b .list-file .ensures)
+    let p = c .before .before in
+    let g = p .before .before .before .before .before .before in
+    let d = g .before .before .before in
+    law.list-says
+    (wrote-same
+    (law.is-read (d .read .ensures) (length-replicate {A = ℕ} maxFrames 0) (g .answer .given .0 .0)
+    (g .answer .given .1) (omega arith) .1)
+    (p .list-request .ensures))
+
+returns-2 : tie.Need-returns-2
+returns-2 c =
+    let p = c .before .before in
+    let g = p .before .before .before in
+    let d = g .before .before .before in
+    law.list-says
+    (wrote-same (law.is-unread (d .read .ensures) (length-replicate {A = ℕ} maxFrames 0) (g .answer2 .given .0 .0)
+    (g .answer2 .given .1)) (p .put-refused .ensures))
 
 pub list-spec : {M : Type 1} → statement M
 list-spec =
     tie.close
     (tie.spec
-    slice-aggregate-list-file
-    slice-aggregate-list-file-2
-    slice-aggregate-list-file-3
-    list-file-requires
-    same-length
-    returns)
+    (λ c. search needs)
+    (λ c κs. search needs)
+    (λ c. search needs)
+    (λ c. search needs)
+    (λ c. search needs)
+    part-list-request-end
+    (λ c κs. search needs)
+    (λ c. search needs)
+    (λ c κs. search needs)
+    (λ c. search needs)
+    returns
+    (λ c. search needs)
+    returns-2)

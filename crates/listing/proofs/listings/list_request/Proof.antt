@@ -1,106 +1,71 @@
--- `listing::listings::list_request` meets its contract.
-use mathlib.Core.List.{[]}
-use Prim.Native.Nat.{_-_}
-use Rattle.model.specs.Request.{Request, request}
-use Rattle.listing.proofs.Written.{wrote-none}
-use Rattle.listing.proofs.Answers as law
+-- The first refusal is shown; past it the request is accepted, and its frames are few enough for the lists.
+use mathlib.Core.Bool.{true}
+use mathlib.Core.Path.{_≡_, sym, ap, _∙_}
+use native.Mathlib.Omega.{arith}
+use Prim.Native.Nat.{ℕ, _-_, _≤_}
+use borrow.Author.Tests.{not-true, not-false}
+use Rattle.model.specs.Limits.{maxFrames}
+use Rattle.model.specs.Request.{Request, request, frameCount}
+use Rattle.model.specs.Refusals.{isNone, planRefusal}
+use Rattle.text.proofs.Written.{wrote-same}
+use Rattle.listing.proofs.Parts as law
 use borrow.Author.Needs.{needs}
 use Rattle.listing.proofs.listings.list_request.Statement.{statement}
 use Rattle.listing.proofs.listings.list_request.Tie as tie
 
 -- the request that is listed
 abbrev asked : tie.Start → Request
-asked a = request (a .args .capacity) (a .args .start) (a .args .end) (a .args .harvest .now)
+asked a = request (a .args .figures) (a .args .harvest .now)
 
-plan-requires : tie.Need-plan-requires
-plan-requires c κs = search needs
+-- past the test there is no refusal
+none : (c : tie.Else1) → isNone (c .before .before .plan-refusal .result) ≡ true
+none c = sym (c .before .is-none .ensures) ∙ not-false (c .before .is-none .result) (c .if1 .left)
 
-enum-told : tie.Need-enum-told
-enum-told c = search needs
+accepted : (c : tie.Else1) → let q = asked (c .before .before .before .before .before) in
+    isNone (planRefusal q (frameCount q)) ≡ true
+accepted c = sym (ap isNone (c .before .before .plan-refusal .ensures)) ∙ none c
 
-list-budgets-requires : tie.Need-list-budgets-requires
-list-budgets-requires c κs =
-    let g = c .before .before .before in
-    let p = g .before .before .before .before in
-    let a = p .before .before .before .before .before in (
-      law.planned-none (asked a) (a .args .budgets .now) (p .plan .last .1 .1 .1 .1 .0) (p .plan .result) (a .pre .0) (p .plan .ensures) (g .enum-told .given .1),
-      (law.planned-feasible (asked a) (a .args .budgets .now) (p .plan .last .1 .1 .1 .1 .0) (p .plan .result) (a .pre .0) (p .plan .ensures) (g .enum-told .given .1), a .pre .1),
-    )
-
-enum-known-planned : tie.Need-enum-known-planned
-enum-known-planned c = search needs
-
-put-refused-requires : tie.Need-put-refused-requires
-put-refused-requires c κs = search needs
-
-same-length : tie.Need-same-length
-same-length c = search needs
-
-same-length-2 : tie.Need-same-length-2
-same-length-2 c = search needs
-
-same-length-3 : tie.Need-same-length-3
-same-length-3 c = search needs
+few : (c : tie.Else1) → frameCount (asked (c .before .before .before .before .before)) ≤ maxFrames
+few c = let q = asked (c .before .before .before .before .before) in law.accepted q (frameCount q) (accepted c) .few
 
 returns : tie.Need-returns
 returns c =
-    let b = c .before .before .before in
-    let g = b .before .before .before .before in
-    let p = g .before .before .before .before in
-    let a = p .before .before .before .before .before in
-    law.planned-text
-    (asked a)
-    (a .args .budgets .now)
-    (p .plan .last .1 .1 .1 .1 .0)
-    (a .args .out .now)
-    _
-    _
-    (p .plan .result)
-    (a .pre .0)
-    (p .plan .ensures)
-    (g .enum-told .given .1)
-    (b .list-budgets .ensures)
+    let p = c .before .before in
+    let t = p .before .before in
+    let r = t .before .before in
+    wrote-same
+    (law.refused (asked (r .before .before .before)) (r .plan-refusal .result) (r .plan-refusal .ensures)
+    (sym (t .before .is-none .ensures) ∙ not-true (t .before .is-none .result) (t .if1 .taken)))
+    (p .put-refused .ensures)
 
-same-length-4 : tie.Need-same-length-4
-same-length-4 c = search needs
+part-budgets-end : tie.Need-part-budgets-end
+part-budgets-end c = omega (arith, few c)
 
-same-length-5 : tie.Need-same-length-5
-same-length-5 c = search needs
+part-charges-end : tie.Need-part-charges-end
+part-charges-end c = omega (arith, few (c .before))
+
+list-plan-requires : tie.Need-list-plan-requires
+list-plan-requires c κs =
+    let e = c .before .before .before in
+    let a = e .before .before .before .before .before in
+    let q = asked a in (
+      ap (λ (m : ℕ). isNone (planRefusal q m)) (law.part-long (frameCount q) _ (few e))
+          ∙ accepted e,
+      law.part-long (frameCount q) _ (few e),
+    )
 
 returns-2 : tie.Need-returns-2
 returns-2 c =
-    let b = c .before .before in
-    let g = b .before .before .before in
-    let p = g .before .before .before .before in
-    let a = p .before .before .before .before .before in
-    let o = a .args .out .now in
-    law.refused-text
-    (asked a)
-    (a .args .budgets .now)
-    (p .plan .last .1 .1 .1 .1 .0)
-    o
-    _
-    _
-    (p .plan .result)
-    (g .planned .given .0 .0)
-    (a .pre .0)
-    (p .plan .ensures)
-    (g .planned .given .1)
-    (b .put-refused .ensures [] o (wrote-none o))
+    let p = c .before .before .before .before in
+    let e = p .before .before .before .before in
+    let r = e .before .before in
+    wrote-same
+    (law.listed (asked (r .before .before .before)) (r .plan-refusal .result) (r .plan-refusal .ensures) (none e))
+    (p .list-plan .ensures)
 
 pub list-request-spec : {M : Type 1} → statement M
 list-request-spec =
     tie.close
-    (tie.spec
-    plan-requires
-    enum-told
-    list-budgets-requires
-    enum-known-planned
-    put-refused-requires
-    same-length
-    same-length-2
-    same-length-3
-    returns
-    same-length-4
-    same-length-5
-    returns-2)
+    (tie.spec (λ c κs. search needs) (λ c κs. search needs) (λ c κs. search needs) (λ c. search needs) returns
+    (λ c. search needs) (λ c. search needs) part-budgets-end (λ c. search needs) (λ c. search needs) part-charges-end
+    list-plan-requires (λ c. search needs) returns-2)

@@ -1,88 +1,39 @@
--- `planner::needed` meets its contract: the first refusal is handed on, and otherwise what the plan without limit requires is found.
+-- Refused: the refusal that was found is the definition's. Otherwise the inner function gives the definition's
+-- capacity.
 use borrow.Author.Needs.{needs}
 use borrow.Author.Tests.{not-true, not-false}
+use mathlib.Core.Bool.{true}
 use mathlib.Core.Path.{_≡_, sym, ap, _∙_}
-use native.Mathlib.Omega.{arith}
-use Prim.Native.Nat.{ℕ, max}
-use lib.ListN.{length}
 use denote.Ref.{now}
-use Rattle.model.specs.Request.{request}
-use Rattle.request.proofs.Within.{NeededWithin}
+use Rattle.model.specs.Request.{Request, request}
+use Rattle.model.specs.Refusals.{isNone}
 use Rattle.planner.proofs.Entries as law
 use Rattle.planner.proofs.needed.needed.Statement.{statement}
 use Rattle.planner.proofs.needed.needed.Tie as tie
 
--- past the refusals the request is within all limits
-accepted : (c : tie.Else1) →
-    let a = c .before .before .before .before .args in
-    NeededWithin (request 0 (a .start) (a .end) (now (a .harvest)))
-accepted c =
-    let a = c .before .before .before .before .args in
-    law.needed-accepted (request 0 (a .start) (a .end) (now (a .harvest))) (c .before .before .needed-refusal .result)
-    (c .before .before .needed-refusal .ensures 0)
-    (sym (c .before .is-none .ensures) ∙ not-false (c .before .is-none .result) (c .if1 .left))
+abbrev requestOf : tie.After-is-none → Request
+requestOf c = let a = c .before .before .before .args in request (a .figures) (now (a .harvest))
 
-needed-refusal-requires : tie.Need-needed-refusal-requires
-needed-refusal-requires c κs = search needs
-
-is-none-requires : tie.Need-is-none-requires
-is-none-requires c κs = search needs
+-- past the test nothing is refused
+accepted : (c : tie.Else1) → isNone (c .before .before .needed-refusal .result) ≡ true
+accepted c = sym (c .before .is-none .ensures) ∙ not-false (c .before .is-none .result) (c .if1 .left)
 
 returns : tie.Need-returns
 returns c =
-    let a = c .before .before .before .before .args in
-    law.needed-refused (a .start) (a .end) (now (a .harvest)) (c .before .before .needed-refusal .result)
-    (c .before .before .needed-refusal .ensures 0)
+    let f = c .before .before .needed-refusal in
+    law.needed-refused (requestOf (c .before)) (f .result) (f .ensures)
     (sym (c .before .is-none .ensures) ∙ not-true (c .before .is-none .result) (c .if1 .taken))
 
-sum-requires : tie.Need-sum-requires
-sum-requires c κs = omega (arith, accepted c .frames .few)
-
-add-energy : tie.Need-add-energy
-add-energy c = search needs
-
-add-plan-peak : tie.Need-add-plan-peak
-add-plan-peak c = search needs
-
-add-plan-peak-2 : tie.Need-add-plan-peak-2
-add-plan-peak-2 c = search needs
-
-plan-peak-requires : tie.Need-plan-peak-requires
-plan-peak-requires c κs =
-    let a = c .before .before .before .before .before .args in
-    law.needed-ready (a .start) (a .end) (c .sum .result) (now (a .harvest)) (accepted (c .before)) (c .sum .ensures .0)
-
-greater-requires : tie.Need-greater-requires
-greater-requires c κs = search needs
-
-greater-requires-2 : tie.Need-greater-requires-2
-greater-requires-2 c κs = search needs
+needed-capacity-requires : tie.Need-needed-capacity-requires
+needed-capacity-requires c κs = sym (ap isNone (c .before .before .needed-refusal .ensures)) ∙ accepted c
 
 returns-2 : tie.Need-returns-2
 returns-2 c =
-    let e = c .before .before .before .before in
-    let a = e .before .before .before .before .args in
-    let sum = c .before .before .before .sum in
-    let peak = c .before .before .plan-peak in
-    law.needed-given (a .start) (a .end) (now (a .harvest)) (c .greater2 .result) (e .before .before .needed-refusal .result)
-    (e .before .before .needed-refusal .ensures 0)
-    (sym (e .before .is-none .ensures) ∙ not-false (e .before .is-none .result) (e .if1 .left))
-    (c .greater2 .ensures
-    ∙ (ap (max (a .start)) (c .before .greater .ensures)
-    ∙ law.needed-found (a .start) (a .end) (sum .result) (peak .result) (now (a .harvest)) (sum .ensures .0) (peak .ensures)))
+    let e = c .before in
+    let f = e .before .before .needed-refusal in
+    law.needed-given (requestOf (e .before)) (c .needed-capacity .result) (f .result) (f .ensures) (accepted e)
+    (c .needed-capacity .ensures)
 
 pub needed-spec : {M : Type 1} → statement M
 needed-spec =
-    tie.close
-    (tie.spec
-    needed-refusal-requires
-    is-none-requires
-    returns
-    sum-requires
-    add-energy
-    add-plan-peak
-    add-plan-peak-2
-    plan-peak-requires
-    greater-requires
-    greater-requires-2
-    returns-2)
+    tie.close (tie.spec (λ c κs. search needs) (λ c κs. search needs) returns needed-capacity-requires returns-2)

@@ -1,4 +1,4 @@
--- Refusal 6. Invariant: what is left of the list has the refusal of the whole.
+-- What is left of the list has the refusal of the whole, since every harvest passed is within the limit.
 use mathlib.Core.Path.{_≡_, sym, _∙_, ap}
 use Prim.Native.Nat.{ℕ, _+_, _-_, _≤_}
 use native.Mathlib.Omega.{arith}
@@ -10,16 +10,15 @@ use Rattle.request.proofs.Harvest as law
 use Rattle.request.proofs.figures.harvest_refusal.Tie as tie
 
 abbrev Inv-loop : tie.InvT-loop
-Inv-loop harvest first i₀ i = (i ≤ length harvest) × (harvestOverLimit (first + i) (drop i harvest) ≡ harvestOverLimit first harvest)
+Inv-loop harvest first i₀ i =
+    (i ≤ length harvest) × (harvestOverLimit (first + i) (drop i harvest) ≡ harvestOverLimit first harvest)
 
 abbrev μ-loop : tie.MeasureT-loop
 μ-loop harvest first i₀ i = length harvest - i
 
 loop-holds : tie.Need-loop-holds Inv-loop μ-loop
-loop-holds c = let s = c .before in (search needs, ap (λ (n : ℕ). harvestOverLimit n (s .args .harvest .now)) (omega arith))
-
-refuse-if-requires : tie.Need-refuse-if-requires Inv-loop μ-loop
-refuse-if-requires c κs = search needs
+loop-holds c = let s = c .before in
+    (search needs, ap (λ (n : ℕ). harvestOverLimit n (s .args .harvest .now)) (omega arith))
 
 returns : tie.Need-returns Inv-loop μ-loop
 returns c =
@@ -29,32 +28,21 @@ returns c =
     ∙ sym (law.over-never (s .args .first + l .loop .i) (l .loop .i) (s .args .harvest .now) (c .before .if1 .taken))
     ∙ l .loop .inv .1
 
-mul-if2 : tie.Need-mul-if2 Inv-loop μ-loop
-mul-if2 c = search needs
-
-shared-slice-read-if2 : tie.Need-shared-slice-read-if2 Inv-loop μ-loop
-shared-slice-read-if2 c = search needs
-
-add-frame : tie.Need-add-frame Inv-loop μ-loop
-add-frame c = search needs
-
-add-i : tie.Need-add-i Inv-loop μ-loop
-add-i c = search needs
-
-loop-less : tie.Need-loop-less Inv-loop μ-loop
-loop-less c = search needs
-
 loop-again : tie.Need-loop-again Inv-loop μ-loop
 loop-again c =
     let l = c .before .before .before in
-    let s = l .before .before in
-    (search needs, law.over-later (s .args .first) (l .loop .i) (s .args .harvest .now) (omega arith) (omega arith) ∙ l .loop .inv .1)
+    let s = l .before .before in (
+      search needs,
+      law.over-later (s .args .first) (l .loop .i) (s .args .harvest .now) (omega arith) (omega arith)
+          ∙ l .loop .inv .1,
+    )
 
 returns-2 : tie.Need-returns-2 Inv-loop μ-loop
 returns-2 c =
     let l = c .before .before .before in
     let s = l .before .before in
-    sym (law.over-here (s .args .first + l .loop .i) (l .loop .i) (s .args .harvest .now) (omega arith) (omega arith)) ∙ l .loop .inv .1
+    sym (law.over-here (s .args .first + l .loop .i) (l .loop .i) (s .args .harvest .now) (omega arith) (omega arith))
+    ∙ l .loop .inv .1
 
 pub harvest-refusal-spec : {M : Type 1} → statement M
 harvest-refusal-spec =
@@ -63,12 +51,12 @@ harvest-refusal-spec =
     Inv-loop
     μ-loop
     loop-holds
-    refuse-if-requires
+    (λ c κs. search needs)
     returns
-    mul-if2
-    shared-slice-read-if2
-    add-frame
-    add-i
-    loop-less
+    (λ c. search needs)
+    (λ c. search needs)
+    (λ c. search needs)
+    (λ c. search needs)
+    (λ c. search needs)
     loop-again
     returns-2)

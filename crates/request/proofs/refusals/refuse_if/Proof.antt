@@ -1,4 +1,4 @@
--- A refusal made by a test, in its two cases.
+-- The test is known in each of its two cases, and `refuseIf` computes on it.
 use Rattle.request.proofs.refusals.refuse_if.Statement.{statement}
 use Rattle.request.proofs.refusals.refuse_if.Tie as tie
 

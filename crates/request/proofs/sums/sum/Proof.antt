@@ -1,4 +1,4 @@
--- The sum of a list. Invariant: the sum so far and the sum of what is left are the whole.
+-- The sum so far and the sum of what is left stay the whole, and 2^31 numbers below 2^32 add up below 2^63.
 use mathlib.Core.Path.{_≡_}
 use Prim.Native.Nat.{_+_, _-_, _*_, _≤_, _<_, _^_}
 use native.Mathlib.Omega.{arith}
@@ -15,29 +15,20 @@ Inv-loop list sum₀ i₀ sum i = (i ≤ length list) × (sum < 2 ^ 32 * (i + 1)
 abbrev μ-loop : tie.MeasureT-loop
 μ-loop list sum₀ i₀ sum i = length list - i
 
-loop-holds : tie.Need-loop-holds Inv-loop μ-loop
-loop-holds c = search needs
-
-mul-sum : tie.Need-mul-sum Inv-loop μ-loop
-mul-sum c = search needs
-
-shared-slice-read-sum : tie.Need-shared-slice-read-sum Inv-loop μ-loop
-shared-slice-read-sum c = search needs
-
 cast-sum : tie.Need-cast-sum Inv-loop μ-loop
 cast-sum c = omega (arith, c .shared-slice-known .given (c .before .before .loop .i))
 
 add-sum : tie.Need-add-sum Inv-loop μ-loop
 add-sum c = omega (arith, c .shared-slice-known .given (c .before .before .loop .i))
 
-add-i : tie.Need-add-i Inv-loop μ-loop
-add-i c = search needs
-
-loop-less : tie.Need-loop-less Inv-loop μ-loop
-loop-less c = search needs
-
 loop-again : tie.Need-loop-again Inv-loop μ-loop
-loop-again c = omega (arith, c .shared-slice-known .given (c .before .before .loop .i), law.total-more (c .before .before .loop .i) (c .before .before .before .args .list .now) (omega arith))
+loop-again c =
+    omega (
+      arith,
+      c .shared-slice-known .given (c .before .before .loop .i),
+      law.total-more
+          (c .before .before .loop .i) (c .before .before .before .args .list .now) (omega arith),
+    )
 
 returns : tie.Need-returns Inv-loop μ-loop
 returns c = omega (arith, law.total-over (c .before .loop .i) (c .before .before .args .list .now) (omega arith))
@@ -48,12 +39,12 @@ sum-spec =
     (tie.spec
     Inv-loop
     μ-loop
-    loop-holds
-    mul-sum
-    shared-slice-read-sum
+    (λ c. search needs)
+    (λ c. search needs)
+    (λ c. search needs)
     cast-sum
     add-sum
-    add-i
-    loop-less
+    (λ c. search needs)
+    (λ c. search needs)
     loop-again
     returns)

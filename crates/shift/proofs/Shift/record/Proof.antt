@@ -1,45 +1,44 @@
--- `Shift::record` meets its promise, refused and recorded.
+-- The refusal is the rule's in either case, and the shift the one due beside it.
 use mathlib.Core.Path.{_≡_, sym, ap, _∙_}
-use mathlib.Core.Bool.{true}
+use mathlib.Core.Bool.{true, false}
+use borrow.Author.Needs.{needs}
 use borrow.Author.Tests.{not-true, not-false}
 use Rattle.model.specs.Refusals.{isNone}
-use Rattle.shift.specs.Shift.{recordRefusal}
+use Rattle.model.proofs.Choice.{pick-by}
+use Rattle.shift.specs.Shift.{recordedBy}
 use Rattle.shift.proofs.Record as law
-use borrow.Author.Needs.{needs}
 use Rattle.shift.proofs.Shift.record.Statement.{statement}
 use Rattle.shift.proofs.Shift.record.Tie as tie
 
 -- past the test there is no refusal
-clear : (c : tie.Else1) → let s = c .before .before .before .args in isNone (recordRefusal (s .self) (s .harvest) (s .used)) ≡ true
-clear c =
-    ap isNone (sym (c .before .before .record-refusal .ensures))
-    ∙ sym (c .before .is-none .ensures)
-    ∙ not-false (c .before .is-none .result) (c .if1 .left)
-
-record-refusal-requires : tie.Need-record-refusal-requires
-record-refusal-requires c κs = search needs
-
-is-none-requires : tie.Need-is-none-requires
-is-none-requires c κs = search needs
+clear : (c : tie.Else1) → isNone (c .before .before .record-refusal .result) ≡ true
+clear c = sym (c .before .is-none .ensures) ∙ not-false (c .before .is-none .result) (c .if1 .left)
 
 returns : tie.Need-returns
 returns c =
-    let n = c .before in
-    let f = n .before in
+    let f = c .before .before in
     let s = f .before .args in
-    law.record-refused (s .self) (s .harvest) (s .used) (f .record-refusal .result) (f .record-refusal .ensures)
-    (sym (n .is-none .ensures) ∙ not-true (n .is-none .result) (c .if1 .taken))
-
-recorded-by-requires : tie.Need-recorded-by-requires
-recorded-by-requires c κs = clear c
+    let r = f .record-refusal in
+    law.record-says (s .self) (s .harvest) (s .used) (r .result) (s .self) (r .ensures)
+    (sym (pick-by (isNone (r .result)) false (recordedBy (s .self) (s .harvest) (s .used)) (s .self)
+    (sym (c .before .is-none .ensures) ∙ not-true (c .before .is-none .result) (c .if1 .taken))))
 
 returns-2 : tie.Need-returns-2
 returns-2 c =
-    let e = c .before in
-    let s = e .before .before .before .args in
-    law.record-done (s .self) (s .harvest) (s .used) (c .recorded-by .result) (clear e) (c .recorded-by .ensures)
+    let f = c .before .before .before in
+    let s = f .before .args in
+    let r = f .record-refusal in
+    law.record-says (s .self) (s .harvest) (s .used) (r .result) (c .recorded-by .result) (r .ensures)
+    (c .recorded-by .ensures
+    ∙ sym (pick-by (isNone (r .result)) true (recordedBy (s .self) (s .harvest) (s .used)) (s .self)
+    (clear (c .before))))
 
 pub record-spec : {M : Type 1} → statement M
 record-spec =
     tie.close
-    (tie.spec record-refusal-requires is-none-requires returns recorded-by-requires returns-2)
+    (tie.spec
+    (λ c κs. search needs)
+    (λ c κs. search needs)
+    returns
+    (λ c κs. ap isNone (sym (c .before .before .record-refusal .ensures)) ∙ clear c)
+    returns-2)

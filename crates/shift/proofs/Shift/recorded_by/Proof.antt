@@ -1,35 +1,58 @@
--- `Shift::recorded_by` meets its contract: with no refusal every sum fits.
+-- With no refusal a frame is left, the use is at hand, and the totals are below what the recorded frames can harvest:
+-- every sum fits, and the frame rule stays at or above zero.
 use native.Mathlib.Omega.{arith}
+use borrow.Author.Needs.{needs}
 use Rattle.shift.proofs.Record as law
 use Rattle.shift.proofs.Shift.recorded_by.Statement.{statement}
 use Rattle.shift.proofs.Shift.recorded_by.Tie as tie
 
-frame-end-requires : tie.Need-frame-end-requires
-frame-end-requires c κs = let s = c in let p = law.passed (s .args .self) (s .args .harvest) (s .args .used) (s .pre) in p .enough
+-- what no refusal tells, past the frame's end
+known :
+    (c : tie.After-frame-end) → let s = c .before .before .before .args in law.Passed (s .self) (s .harvest) (s .used)
+known c = let s = c .before .before .before in law.passed (s .args .self) (s .args .harvest) (s .args .used) (s .pre)
 
-add-t5 : tie.Need-add-t5
-add-t5 c = let s = c .before .before in let p = law.passed (s .args .self) (s .args .harvest) (s .args .used) (s .pre) in omega arith
-
-add-t7 : tie.Need-add-t7
-add-t7 c = let s = c .before .before .before in let p = law.passed (s .args .self) (s .args .harvest) (s .args .used) (s .pre) in omega arith
-
-add-t9 : tie.Need-add-t9
-add-t9 c = let s = c .before .before .before .before in let p = law.passed (s .args .self) (s .args .harvest) (s .args .used) (s .pre) in omega arith
+-- and what the frame's end is
+frame-is :
+    (c : tie.After-frame-end) →
+    let s = c .before .before .before .args in
+    law.Ended (s .self .terms .capacity) (s .self .now .charge) (s .harvest) (s .used) (c .frame-end .result)
+frame-is c =
+    let s = c .before .before .before .args in
+    let p = known c in
+    law.ended (s .self .terms .capacity) (s .self .now .charge) (s .harvest) (s .used) (c .frame-end .result)
+    (omega arith) (omega arith) (p .enough) (c .frame-end .ensures)
 
 add-t10 : tie.Need-add-t10
-add-t10 c =
-    let e = c .before .before .before .before .before in
-    let s = e .before in
-    let p = law.passed (s .args .self) (s .args .harvest) (s .args .used) (s .pre) in
-    let d = e .frame-end .ensures in
-    omega arith
+add-t10 c = let p = known (c .before) in omega arith
+
+add-t12 : tie.Need-add-t12
+add-t12 c = let p = known (c .before .before) in omega arith
+
+add-t13 : tie.Need-add-t13
+add-t13 c =
+    let e = c .before .before .before .before in
+    let p = known e in
+    omega (arith, frame-is e .lost-is)
+
+add-t14 : tie.Need-add-t14
+add-t14 c = let p = known (c .before .before .before .before .before) in omega arith
 
 returns : tie.Need-returns
 returns c =
-    let e = c .before .before .before .before .before in
-    let s = e .before .args in
-    let f = e .frame-end in
-    law.recorded-as (s .self) (s .harvest) (s .used) (f .result .charge) (f .result .lost) (f .ensures .0) (f .ensures .1)
+    let e = c .before .before .before .before .before .before .before in
+    let s = e .before .before .before .args in
+    let d = frame-is e in
+    law.recorded-as (s .self) (s .harvest) (s .used) _ (e .frame-end .result .lost) (d .charge-is) (d .lost-is)
 
 pub recorded-by-spec : {M : Type 1} → statement M
-recorded-by-spec = tie.close (tie.spec frame-end-requires add-t5 add-t7 add-t9 add-t10 returns)
+recorded-by-spec =
+    tie.close
+    (tie.spec
+    (λ c. search needs)
+    (λ c κs. law.charge-small (c .before .before .args .self .now .charge) (omega arith))
+    add-t10
+    add-t12
+    add-t13
+    add-t14
+    (λ c. frame-is (c .before .before .before .before .before .before .before) .charge-fits)
+    returns)

@@ -1,4 +1,4 @@
--- The earliest charge below zero. Invariant: the rest of the list has the frame of the whole.
+-- The rest of the list has the frame of the whole, since every charge passed is not below zero.
 use mathlib.Core.Bool.{true, false}
 use mathlib.Core.Path.{_≡_, sym, _∙_}
 use Prim.Native.Nat.{_≤_, _-_, _+_}
@@ -7,7 +7,7 @@ use lib.IntN.{pos}
 use lib.ListN.{getD, length, drop}
 use borrow.Author.Needs.{needs}
 use Rattle.model.specs.Trace.{belowFrom}
-use Rattle.tracer.proofs.Frame.{below-test}
+use Rattle.model.proofs.Machine.{below-test}
 use Rattle.tracer.proofs.verdicts.earliest_below.Statement.{statement}
 use Rattle.tracer.proofs.Search as law
 use Rattle.tracer.proofs.verdicts.earliest_below.Tie as tie
@@ -18,36 +18,15 @@ Inv-loop charges i₀ i = (i ≤ length charges) × (belowFrom (i + 1) (drop i c
 abbrev μ-loop : tie.MeasureT-loop
 μ-loop charges i₀ i = length charges - i
 
-loop-holds : tie.Need-loop-holds Inv-loop μ-loop
-loop-holds c = search needs
-
-add-if1 : tie.Need-add-if1 Inv-loop μ-loop
-add-if1 c = search needs
-
-mul-if2 : tie.Need-mul-if2 Inv-loop μ-loop
-mul-if2 c = search needs
-
-shared-slice-copy-out-if2 : tie.Need-shared-slice-copy-out-if2 Inv-loop μ-loop
-shared-slice-copy-out-if2 c = search needs
-
-add-frame : tie.Need-add-frame Inv-loop μ-loop
-add-frame c = search needs
-
-cast-frame : tie.Need-cast-frame Inv-loop μ-loop
-cast-frame c = search needs
-
-add-i : tie.Need-add-i Inv-loop μ-loop
-add-i c = search needs
-
-loop-less : tie.Need-loop-less Inv-loop μ-loop
-loop-less c = search needs
-
 loop-again : tie.Need-loop-again Inv-loop μ-loop
 loop-again c =
     let l = c .before .before .before in
     let zs = l .before .args .charges .now in
-    let i = l .loop .i in
-    (omega arith, law.passed i zs (omega arith) (below-test (getD zs i (pos 0)) (c .before .if22 .given) false (c .if2 .left)) ∙ l .loop .inv .1)
+    let i = l .loop .i in (
+      omega arith,
+      law.passed i zs (omega arith)
+          (below-test (getD zs i (pos 0)) (c .before .if22 .given) false (c .if2 .left)) ∙ l .loop .inv .1,
+    )
 
 returns : tie.Need-returns Inv-loop μ-loop
 returns c =
@@ -60,7 +39,8 @@ returns-2 c =
     let l = c .before .before .before in
     let zs = l .before .args .charges .now in
     let i = l .loop .i in
-    sym (law.found (i + 1) i zs (omega arith) (below-test (getD zs i (pos 0)) (c .before .if22 .given) true (c .if2 .taken))) ∙ l .loop .inv .1
+    sym (law.found (i + 1) i zs (omega arith)
+    (below-test (getD zs i (pos 0)) (c .before .if22 .given) true (c .if2 .taken))) ∙ l .loop .inv .1
 
 pub earliest-below-spec : {M : Type 1} → statement M
 earliest-below-spec =
@@ -68,14 +48,14 @@ earliest-below-spec =
     (tie.spec
     Inv-loop
     μ-loop
-    loop-holds
-    add-if1
-    mul-if2
-    shared-slice-copy-out-if2
-    add-frame
-    cast-frame
-    add-i
-    loop-less
+    (λ c. search needs)
+    (λ c. search needs)
+    (λ c. search needs)
+    (λ c. search needs)
+    (λ c. search needs)
+    (λ c. search needs)
+    (λ c. search needs)
+    (λ c. search needs)
     loop-again
     returns
     returns-2)

@@ -1,67 +1,63 @@
--- `wordfile::reader::read` meets its contract.
-use Rattle.model.specs.Refusals.{refusal}
-use Rattle.wordfile.specs.Form.{formOf}
-use Rattle.wordfile.specs.File.{formRefusal}
-use Rattle.wordfile.specs.declared.form.Form.{Form}
-use mathlib.Core.Path.{refl, sym, ap, _∙_}
-use Prim.Native.Nat.{_-_}
+-- A refusal is answered before anything is written; a file that is not refused closed, so its harvests have room, and
+-- it is the file of its request.
+use mathlib.Core.Path.{_≡_, sym, ap, _∙_}
+use mathlib.Core.Bool.{true}
 use lib.ListN.{length}
-use Rattle.wordfile.specs.Words.{wordsOf}
-use Rattle.wordfile.proofs.Refused as law
 use borrow.Author.Needs.{needs}
+use borrow.Author.Tests.{not-true, not-false}
+use Rattle.model.specs.Refusals.{isNone}
+use Rattle.wordfile.specs.File.{readRefusal}
+use Rattle.wordfile.proofs.Refused as law
 use Rattle.wordfile.proofs.reader.read.Statement.{statement}
 use Rattle.wordfile.proofs.reader.read.Tie as tie
 
+-- the file is not refused
+accepted :
+    (c : tie.Else1) → let a = c .before .before .before .before .before .args in
+    isNone (readRefusal (a .file .now) (length (a .harvest .now))) ≡ true
+accepted c =
+    let n = c .before in
+    sym (ap isNone (n .before .read-refusal .ensures))
+    ∙ (sym (n .is-none .ensures) ∙ not-false (n .is-none .result) (c .if1 .left))
+
 returns : tie.Need-returns
 returns c =
-    let a = c .before .before .before in
-    let s = a .args .file .now in
-    let h = a .args .harvest .now in
-    law.read-refused s h (refusal 2 0) (law.too-long (formOf (wordsOf s)) (length s) (length h) (c .if1 .taken)) refl
+    let n = c .before in
+    let f = n .before .read-refusal in
+    let a = n .before .before .before .before .args in
+    law.read-refused (a .file .now) (a .harvest .now) (f .result) (f .ensures)
+    (sym (n .is-none .ensures) ∙ not-true (n .is-none .result) (c .if1 .taken))
 
-scan-requires : tie.Need-scan-requires
-scan-requires c κs = search needs
+fill-requires : tie.Need-fill-requires
+fill-requires c κs =
+    let e = c .before in
+    let a = e .before .before .before .before .before .args in
+    law.read-within (a .file .now) (length (a .harvest .now)) (accepted e) .space
 
-enum-known-form : tie.Need-enum-known-form
-enum-known-form c = search needs
-
-read-closed-requires : tie.Need-read-closed-requires
-read-closed-requires c κs =
-    let f = c .before .before .before .before in
-    (sym (f .scan .ensures) ∙ c .before .before .form .given .1, f .before .if1 .left)
-
-enum-known-form-2 : tie.Need-enum-known-form-2
-enum-known-form-2 c = search needs
-
-same-length : tie.Need-same-length
-same-length c = search needs
+figures-in-requires : tie.Need-figures-in-requires
+figures-in-requires c κs =
+    let e = c .before .before .before .before in
+    let a = e .before .before .before .before .before .args in
+    law.read-within (a .file .now) (length (a .harvest .now)) (accepted e) .figures
 
 returns-2 : tie.Need-returns-2
-returns-2 c = c .before .before .read-closed .ensures
-
-returns-3 : tie.Need-returns-3
-returns-3 c =
+returns-2 c =
     let f = c .before .before .before in
-    let a = f .before .before .before .before in
-    let s = a .args .file .now in
-    let h = a .args .harvest .now in
-    let p = c .before .form2 .given .0 .0 in
-    law.read-refused
-    s
-    h
-    (refusal 8 p)
-    (ap (λ (x : Form). formRefusal x (length s) (length h)) (sym (f .scan .ensures) ∙ c .before .form2 .given .1) ∙ law.broken p (length s) (length h) (f .before .if1 .left))
-    refl
+    let e = f .before .before in
+    let k = e .before .before .before .before in
+    let a = k .before .args in
+    law.read-accepted (a .file .now) (a .harvest .now) (f .fill .last .1 .0) (c .figures-in .result) (f .fill .result)
+    (accepted e) (c .figures-in .ensures) (f .fill .ensures .1) (f .fill .ensures .0)
+    (λ i. k .shared-slice-known .given i .fits)
 
 pub read-spec : {M : Type 1} → statement M
 read-spec =
     tie.close
     (tie.spec
+    (λ c κs. search needs)
+    (λ c κs. search needs)
     returns
-    scan-requires
-    enum-known-form
-    read-closed-requires
-    enum-known-form-2
-    same-length
-    returns-2
-    returns-3)
+    fill-requires
+    figures-in-requires
+    (λ c. search needs)
+    returns-2)

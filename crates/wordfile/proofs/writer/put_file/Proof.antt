@@ -1,97 +1,51 @@
--- `wordfile::writer::put_file` meets its contract.
-use Rattle.wordfile.proofs.Written as law
+-- The figures, the harvests and the end word are put one behind the other, and have room since the whole file has; the
+-- place behind the end word is the length of their bytes.
+use mathlib.Core.Path.{_≡_}
+use Prim.Native.Nat.{_+_, _*_}
+use native.Mathlib.Omega.{arith}
+use lib.ListN.{length}
 use borrow.Author.Needs.{needs}
+use Rattle.model.specs.Request.{Request, request}
+use Rattle.wordfile.proofs.Written as law
 use Rattle.wordfile.proofs.writer.put_file.Statement.{statement}
 use Rattle.wordfile.proofs.writer.put_file.Tie as tie
 
-build-requires : tie.Need-build-requires
-build-requires c κs = search needs
-
-put-word-requires : tie.Need-put-word-requires
-put-word-requires c κs = search needs
-
-build-requires-2 : tie.Need-build-requires-2
-build-requires-2 c κs = search needs
-
-put-word-requires-2 : tie.Need-put-word-requires-2
-put-word-requires-2 c κs = search needs
-
-build-requires-3 : tie.Need-build-requires-3
-build-requires-3 c κs = search needs
-
-put-word-requires-3 : tie.Need-put-word-requires-3
-put-word-requires-3 c κs = search needs
+-- the request whose file is put
+abbrev asked : tie.Start → Request
+asked a = request (a .args .figures) (a .args .harvest .now)
 
 put-harvest-requires : tie.Need-put-harvest-requires
-put-harvest-requires c κs = search needs
+put-harvest-requires c κs =
+    let f = c .before .before .before in
+    let a = f .before .before .before .before in
+    (a .pre .0 .1, omega (arith, law.file-length (asked a), f .put-figures .ensures .behind))
 
-cast-build : tie.Need-cast-build
-cast-build c = search needs
-
-build-requires-4 : tie.Need-build-requires-4
-build-requires-4 c κs = search needs
-
-mul-put-word : tie.Need-mul-put-word
-mul-put-word c = search needs
-
-add-put-word : tie.Need-add-put-word
-add-put-word c = search needs
-
-put-word-requires-4 : tie.Need-put-word-requires-4
-put-word-requires-4 c κs = search needs
-
-same-length : tie.Need-same-length
-same-length c = search needs
+put-requires : tie.Need-put-requires
+put-requires c κs =
+    let h = c .before .before .before in
+    let f = h .before .before .before .before in
+    let a = f .before .before .before .before in
+    let n = law.file-length (asked a) in
+    let m = law.harvest-size (a .args .harvest .now) in
+    let at : h .put-harvest .result ≡ 12 + 4 * length (a .args .harvest .now) =
+    omega (arith, m, f .put-figures .ensures .behind, h .put-harvest .ensures .behind) in
+    ((omega arith, a .pre .0 .1 .1), omega arith)
 
 returns : tie.Need-returns
 returns c =
-    let p5 = c .before .before in
-    let h = p5 .before .before .before .before .before in
-    let p3 = h .before .before .before .before in
-    let p2 = p3 .before .before .before .before .before in
-    let p1 = p2 .before .before .before .before .before in
-    let a = p1 .before .before .before .before .before in
-    law.file-written
-    (a .args .capacity)
-    (a .args .start)
-    (a .args .end)
-    (a .args .harvest .now)
-    (a .args .out .now)
-    (a .pre .1 .1 .1)
-    (p1 .before .before .build .result)
-    (p2 .before .before .build2 .result)
-    (p3 .before .before .build3 .result)
-    (p5 .before .before .build4 .result)
-    (p1 .before .before .build .ensures)
-    (p2 .before .before .build2 .ensures)
-    (p3 .before .before .build3 .ensures)
-    (p5 .before .before .build4 .ensures)
-    (p1 .put-word .last .1 .0)
-    (p2 .put-word2 .last .1 .0)
-    (p3 .put-word3 .last .1 .0)
-    (h .put-harvest .last .1 .0)
-    (p5 .put-word4 .last .1 .0)
-    (p1 .put-word .ensures)
-    (p2 .put-word2 .ensures)
-    (p3 .put-word3 .ensures)
-    (h .put-harvest .ensures)
-    (p5 .put-word4 .ensures)
+    let e = c .before .before in
+    let h = e .before .before .before .before in
+    let f = h .before .before .before .before in
+    let a = f .before .before .before .before in
+    law.puts-file (asked a) (a .pre .1) (f .put-figures .ensures) (h .put-harvest .ensures) (e .put .ensures)
 
 pub put-file-spec : {M : Type 1} → statement M
 put-file-spec =
     tie.close
     (tie.spec
-    build-requires
-    put-word-requires
-    build-requires-2
-    put-word-requires-2
-    build-requires-3
-    put-word-requires-3
+    (λ c κs. search needs)
     put-harvest-requires
-    cast-build
-    build-requires-4
-    mul-put-word
-    add-put-word
-    put-word-requires-4
-    same-length
+    (λ c. search needs)
+    put-requires
+    (λ c. search needs)
     returns)

@@ -1,60 +1,59 @@
--- `wordfile::writer::write` meets its contract.
+-- A refusal is answered before anything is written; a request that is not refused fits its words, so its file is put,
+-- the place behind it is its length, and the reader reads it back.
+use mathlib.Core.Path.{_≡_, sym, ap, _∙_}
+use mathlib.Core.Bool.{true}
 use lib.ListN.{length}
-use Rattle.model.specs.Request.{Request, request}
-use Rattle.wordfile.proofs.Refused as law
 use borrow.Author.Needs.{needs}
+use borrow.Author.Tests.{not-true, not-false}
+use Rattle.model.specs.Request.{Request, request}
+use Rattle.model.specs.Refusals.{isNone}
+use Rattle.wordfile.specs.File.{writeRefusal}
+use Rattle.wordfile.proofs.Refused as law
 use Rattle.wordfile.proofs.writer.write.Statement.{statement}
 use Rattle.wordfile.proofs.writer.write.Tie as tie
 
 -- the request that is written
 abbrev asked : tie.Start → Request
-asked a = request (a .args .capacity) (a .args .start) (a .args .end) (a .args .harvest .now)
+asked a = request (a .args .figures) (a .args .harvest .now)
 
-write-refusal-requires : tie.Need-write-refusal-requires
-write-refusal-requires c κs = search needs
+-- it is not refused
+accepted :
+    (c : tie.Else1) → let a = c .before .before .before .before .before in
+    isNone (writeRefusal (asked a) (length (a .args .out .now))) ≡ true
+accepted c =
+    let n = c .before in
+    sym (ap isNone (n .before .write-refusal .ensures))
+    ∙ (sym (n .is-none .ensures) ∙ not-false (n .is-none .result) (c .if1 .left))
 
 returns : tie.Need-returns
 returns c =
-    let w = c .before .before in
-    let a = w .before .before .before in
-    law.write-refused (asked a) (a .args .out .now) (w .write-refusal .result) (w .write-refusal .ensures) (c .if1 .taken)
+    let n = c .before in
+    let f = n .before .write-refusal in
+    let a = n .before .before .before .before in
+    law.write-refused (asked a) (a .args .out .now) (f .result) (f .ensures)
+    (sym (n .is-none .ensures) ∙ not-true (n .is-none .result) (c .if1 .taken))
 
 put-file-requires : tie.Need-put-file-requires
 put-file-requires c κs =
-    let w = c .before .before .before in
-    let a = w .before .before .before in
-    let k = law.write-within (asked a) (length (a .args .out .now)) (law.not-refused (asked a) (length (a .args .out .now)) (w .write-refusal .result) (w .write-refusal .ensures) (c .before .if1 .left)) in
-    ((k .fits .capacity, k .fits .start, k .fits .end), (k .fits .harvest, (k .fits .frames, k .space)))
-
-add-t12 : tie.Need-add-t12
-add-t12 c = search needs
-
-mul-t13 : tie.Need-mul-t13
-mul-t13 c = search needs
-
-same-length : tie.Need-same-length
-same-length c = search needs
+    let a = c .before .before .before .before .before .before in
+    let w = law.write-within (asked a) (length (a .args .out .now)) (accepted (c .before)) in
+    (w .fits, w .space)
 
 returns-2 : tie.Need-returns-2
 returns-2 c =
-    let f = c .before .before in
-    let w = f .before .before .before .before in
-    let a = w .before .before .before in
-    law.write-written
-    (asked a)
-    (a .args .out .now)
-    (f .put-file .last .1 .1 .1 .1 .0)
-    (law.not-refused (asked a) (length (a .args .out .now)) (w .write-refusal .result) (w .write-refusal .ensures) (f .before .before .if1 .left))
-    (f .put-file .ensures)
+    let p = c .before .before in
+    let e = p .before .before in
+    let a = e .before .before .before .before .before in
+    law.write-written (asked a) (a .args .out .now) (p .put-file .last .1 .1 .0) (p .put-file .result) (accepted e)
+    (p .put-file .ensures .0) (p .put-file .ensures .1)
 
 pub write-spec : {M : Type 1} → statement M
 write-spec =
     tie.close
     (tie.spec
-    write-refusal-requires
+    (λ c κs. search needs)
+    (λ c κs. search needs)
     returns
     put-file-requires
-    add-t12
-    mul-t13
-    same-length
+    (λ c. search needs)
     returns-2)

@@ -1,52 +1,39 @@
--- `wordfile::writer::write_refusal` meets its contract.
-use Rattle.wordfile.proofs.Refused as law
-use Rattle.model.specs.Request.{request}
+-- The refusals of frames, room and figures are computed one by one and put together in the order of the list.
+use mathlib.Core.Path.{ap, _∙_}
+use mathlib.Core.List.{_∷_}
+use Prim.Native.Nat.{ℕ}
+use lib.Dec.{ltb}
+use lib.ListN.{length}
 use borrow.Author.Needs.{needs}
+use Rattle.model.specs.Request.{request, frameCount}
+use Rattle.model.specs.Refusals.{refuseIf, framesRefusals, figureRefusals}
+use Rattle.model.proofs.First.{first-append, first-cons}
+use Rattle.wordfile.specs.File.{fileBytes}
 use Rattle.wordfile.proofs.writer.write_refusal.Statement.{statement}
 use Rattle.wordfile.proofs.writer.write_refusal.Tie as tie
 
-frames-refusal-requires : tie.Need-frames-refusal-requires
-frames-refusal-requires c κs = search needs
-
-add-refuse-if : tie.Need-add-refuse-if
-add-refuse-if c = search needs
-
-mul-refuse-if : tie.Need-mul-refuse-if
-mul-refuse-if c = search needs
-
-refuse-if-requires : tie.Need-refuse-if-requires
-refuse-if-requires c κs = search needs
-
-figures-refusal-requires : tie.Need-figures-refusal-requires
-figures-refusal-requires c κs = search needs
-
-first-of-requires : tie.Need-first-of-requires
-first-of-requires c κs = search needs
-
-first-of-requires-2 : tie.Need-first-of-requires-2
-first-of-requires-2 c κs = search needs
-
 returns : tie.Need-returns
 returns c =
-    let a = c .before .before .before .before .before .before .args in
-    law.write-refusal-is
-    (request (a .capacity) (a .start) (a .end) (a .harvest .now))
-    (a .room)
-    (c .before .before .before .before .frames-refusal .ensures)
-    (c .before .before .before .refuse-if .ensures)
-    (c .before .before .figures-refusal .ensures)
-    (c .before .first-of .ensures)
+    let f = c .before .before in
+    let k = f .before .before .before in
+    let a = k .before .before .args in
+    let q = request (a .figures) (a .harvest .now) in
+    first-append (framesRefusals (frameCount q)) (refuseIf (ltb (a .room) (length (fileBytes q))) 7 ∷ figureRefusals q)
+    (k .frames-refusal .ensures)
+    (first-cons
+    (f .before .refuse-if .ensures
+    ∙ ap (λ (n : ℕ). refuseIf (ltb (a .room) n) 7) (f .before .before .file-size .ensures))
+    (f .figures-refusal .ensures) (c .before .first-of .ensures))
     (c .first-of2 .ensures)
 
 pub write-refusal-spec : {M : Type 1} → statement M
 write-refusal-spec =
     tie.close
     (tie.spec
-    frames-refusal-requires
-    add-refuse-if
-    mul-refuse-if
-    refuse-if-requires
-    figures-refusal-requires
-    first-of-requires
-    first-of-requires-2
+    (λ c κs. search needs)
+    (λ c κs. search needs)
+    (λ c κs. search needs)
+    (λ c κs. search needs)
+    (λ c κs. search needs)
+    (λ c κs. search needs)
     returns)

@@ -19,8 +19,8 @@ struct NeededAnswer {
     capacity: u64,
 }
 
-type Plan = unsafe extern "C" fn(u32, u32, u32, *const u32, usize, *mut u32, usize) -> PlanAnswer;
-type Needed = unsafe extern "C" fn(u32, u32, *const u32, usize) -> NeededAnswer;
+type Plan = unsafe extern "C" fn(Figures, *const u32, usize, *mut u32, usize) -> PlanAnswer;
+type Needed = unsafe extern "C" fn(Figures, *const u32, usize) -> NeededAnswer;
 
 #[link(name = "dl")]
 extern "C" {
@@ -95,17 +95,16 @@ impl Beside {
 
     /// Its `energy_plan`; whether it was accepted.
     pub fn plan(&self, figures: Figures, harvest: &[u32], budgets: &mut [u32]) -> bool {
-        let Figures { capacity, start, end } = figures;
         let (taken, given) = (harvest.as_ptr(), budgets.as_mut_ptr());
         // SAFETY: both lists are valid for their lengths, and a mutable list overlaps no other.
-        let answer = unsafe { (self.plan)(capacity, start, end, taken, harvest.len(), given, budgets.len()) };
+        let answer = unsafe { (self.plan)(figures, taken, harvest.len(), given, budgets.len()) };
         answer.number == 0 && answer.p == 0
     }
 
     /// Its `energy_needed`, if it was accepted.
-    pub fn needed(&self, start: u32, end: u32, harvest: &[u32]) -> Option<u64> {
+    pub fn needed(&self, figures: Figures, harvest: &[u32]) -> Option<u64> {
         // SAFETY: the list is valid for its length.
-        let answer = unsafe { (self.needed)(start, end, harvest.as_ptr(), harvest.len()) };
+        let answer = unsafe { (self.needed)(figures, harvest.as_ptr(), harvest.len()) };
         (answer.number == 0 && answer.p == 0).then_some(answer.capacity)
     }
 }

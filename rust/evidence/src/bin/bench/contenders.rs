@@ -56,10 +56,10 @@ fn plans(plan: impl Fn(Figures, &[u32], &mut [u32]) -> bool + 'static) -> Run {
 }
 
 /// Needed capacities.
-fn needs(needed: impl Fn(u32, u32, &[u32]) -> Option<u64> + 'static) -> Run {
+fn needs(needed: impl Fn(Figures, &[u32]) -> Option<u64> + 'static) -> Run {
     Box::new(move |request| {
-        let Figures { start, end, .. } = black_box(request.figures);
-        assert!(black_box(needed(start, end, black_box(&request.harvest))).is_some());
+        let answer = needed(black_box(request.figures), black_box(&request.harvest));
+        assert!(black_box(answer).is_some());
     })
 }
 
@@ -67,7 +67,7 @@ fn needs(needed: impl Fn(u32, u32, &[u32]) -> Option<u64> + 'static) -> Run {
 fn by(energy: impl Energy + 'static, call: Call) -> Run {
     match call {
         Call::Plan => plans(move |figures, harvest, budgets| energy.plan(figures, harvest, budgets).is_ok()),
-        Call::Needed => needs(move |start, end, harvest| energy.needed(start, end, harvest).ok()),
+        Call::Needed => needs(move |figures, harvest| energy.needed(figures, harvest).ok()),
     }
 }
 
@@ -86,7 +86,7 @@ pub fn other(beside: &Beside, call: Call) -> Run {
     let beside = beside.clone();
     match call {
         Call::Plan => plans(move |figures, harvest, budgets| beside.plan(figures, harvest, budgets)),
-        Call::Needed => needs(move |start, end, harvest| beside.needed(start, end, harvest)),
+        Call::Needed => needs(move |figures, harvest| beside.needed(figures, harvest)),
     }
 }
 

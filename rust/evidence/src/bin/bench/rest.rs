@@ -7,7 +7,7 @@ use evidence::algorithms::linear;
 use evidence::families::{request, Family, Size};
 use evidence::random::{seed, Random};
 use evidence::reference::curves::grade;
-use evidence::reference::limits::MAX_FILE_BYTES;
+use evidence::reference::limits::{MAX_FILE_BYTES, MAX_FRAMES};
 use evidence::under_test;
 use std::time::Instant;
 
@@ -34,8 +34,8 @@ fn plan_micros(energy: &dyn Energy, figures: Figures, harvest: &[u32]) -> f64 {
 
 /// Reading and writing the largest file.
 fn measure_files(all: &[Box<dyn Energy>]) {
-    println!("\n## Files of 2,976 frames\n");
-    let (figures, harvest) = daily_sun(Size::Middle, 2_976);
+    println!("\n## Files of {MAX_FRAMES} frames\n");
+    let (figures, harvest) = daily_sun(Size::Middle, MAX_FRAMES);
     for energy in all {
         let mut file = vec![0; MAX_FILE_BYTES];
         let write = alone(|| assert!(energy.write(black_box(figures), black_box(&harvest), &mut file).is_ok()));

@@ -3,9 +3,10 @@
 use crate::contenders::{Call, CALLS};
 use crate::guess::guess;
 use crate::measured::{Line, Measure, Measured};
+use evidence::reference::limits::MAX_FRAMES;
 
 /// The numbers of frames of the summary.
-const SUMMARY: [usize; 2] = [672, 2_976];
+const SUMMARY: [usize; 2] = [672, MAX_FRAMES];
 
 /// A figure with two digits behind the point, a small one with three, or an empty cell.
 fn cell(figure: Option<f64>) -> String {

@@ -1,0 +1,2 @@
+-- What the number of an answer says.
+pub mod Number

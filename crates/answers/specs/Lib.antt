@@ -1,0 +1,2 @@
+-- Each entry's answer as C gets it.
+pub mod Flat

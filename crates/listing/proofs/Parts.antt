@@ -1,0 +1,113 @@
+-- What the parts of the listing say of a request that planning does not refuse, and of one that it does.
+use mathlib.Core.Path.{_≡_, refl, sym, ap, _∙_}
+use mathlib.Core.Bool.{Bool, true, false}
+use mathlib.Core.List.{List, [], _∷_, _++_, map}
+use Prim.Native.Nat.{ℕ, _-_, _≤_}
+use native.Mathlib.Omega.{arith}
+use borrow.Author.Tests.{le-ltb}
+use lib.Dec.{T}
+use lib.IntN.{ℤ, pos}
+use lib.ListN.{length, getD, take, replicate, length-map, length-take, length-replicate}
+use lib.Signed.{nonNeg}
+use Rattle.model.specs.declared.Refusal.{Refusal}
+use Rattle.model.specs.Choice.{pick}
+use Rattle.model.specs.Limits.{maxFrames, maxCapacity}
+use Rattle.model.specs.Request.{Request, frameCount}
+use Rattle.model.specs.Refusals as R
+use Rattle.model.specs.Refusals.{isNone, planRefusal, neededRefusal}
+use Rattle.model.specs.Charge.{charges}
+use Rattle.model.specs.Trace.{trace}
+use Rattle.model.specs.Plan.{planOf, neededOf}
+use Rattle.model.proofs.Choice.{pick-by}
+use Rattle.model.proofs.First.{first-none, none-first, both-none}
+use Rattle.model.proofs.Request.{plan-is}
+use Rattle.model.proofs.Trace.{trace-charges, feasible-length}
+use Rattle.request.proofs.Within.{plan-within}
+use Rattle.grader.specs.Says.{sumsOf}
+use Rattle.grader.specs.declared.Sums.{Sums}
+use Rattle.text.specs.Line.{lineOf, linesOf}
+use Rattle.printed.specs.Text.{firstPattern, framePattern, worthPattern, refusedLine, frameRows, showing, shownOf}
+use Rattle.printed.specs.Text.{requestText}
+use Rattle.printed.proofs.Means.{charges-length}
+use Rattle.printed.proofs.FrameLines.{amounts, amounts-pos, pos-nonNeg}
+
+-- what holds of a request that planning does not refuse
+pub record Accepted (q : Request) : Type 0 where
+  pub few : frameCount q ≤ maxFrames
+  pub needed : isNone (neededRefusal q) ≡ true
+  pub budgets : length (planOf q) ≡ frameCount q
+  pub charges : trace q (planOf q) ≡ map pos (charges q (planOf q))
+
+pub accepted : (q : Request) (n : ℕ) → isNone (planRefusal q n) ≡ true → Accepted q
+accepted q n e =
+    let w = plan-within q n e in
+    let k = frameCount q in
+    let last = R.outOfReach q ∷ [] in
+    let a = both-none (R.framesRefusals k) (R.wrongLength k n ∷ (R.figureRefusals q ++ last))
+    (first-none (R.planRefusals q n) e) in
+    let b = both-none (R.figureRefusals q) last (a .1 .1) in
+    let f = plan-is q (w .figures .start-fits) (w .figures .end-fits) (w .reach) .is-feasible in
+    let s = low (q .figures .start) (omega (arith, w .figures .capacity-small, w .figures .start-fits)) in
+    let d = low (q .figures .end) (omega (arith, w .figures .capacity-small, w .figures .end-fits)) in
+    record {
+      few = w .frames .few;
+      needed = ap isNone (none-first (R.neededRefusals q) (a .0 .0, (a .0 .1 .0, (s, (d, (b .0 .1 .1 .1 .0, b .1))))));
+      budgets = feasible-length q (planOf q) f;
+      charges = trace-charges q (planOf q) f;
+    }
+  where
+    low : (n : ℕ) → n ≤ maxCapacity → isNone (R.overCapacityLimit n) ≡ true
+    low n l = rw (le-ltb maxCapacity n l)
+
+-- its parts: the budgets bs and the charges ys after them
+module _ (q : Request) (w : Accepted q) (bs : List ℕ) (b : bs ≡ planOf q) where
+  pub budgets-long : length bs ≡ frameCount q
+  budgets-long = ap length b ∙ w .budgets
+
+  pub budgets-few : length bs ≤ maxFrames
+  budgets-few = rw budgets-long (w .few)
+
+  module _ (ys : List ℤ) (y : ys ≡ trace q bs) where
+    charges-are : ys ≡ map pos (charges q (planOf q))
+    charges-are = y ∙ (ap (trace q) b ∙ w .charges)
+
+    pub charges-long : length ys ≡ length bs
+    charges-long =
+        ap length charges-are
+        ∙ (length-map (charges q (planOf q)) pos
+        ∙ (charges-length (q .figures .capacity) (q .figures .start) (q .harvest) (planOf q) (w .budgets)
+        ∙ sym (ap length b)))
+
+    -- none of the charges is below zero
+    pub charges-shown : (i : ℕ) → T (nonNeg (getD ys i (pos 0)))
+    charges-shown i = rw charges-are (pos-nonNeg (charges q (planOf q)) i)
+
+    -- the lines of the needed capacity n, of these parts and of their sums s
+    pub shown-is : (n : ℕ) (s : Sums) → n ≡ neededOf q → s ≡ sumsOf bs →
+        lineOf firstPattern (frameCount q ∷ q .figures .capacity ∷ n ∷ [])
+        ++ (linesOf framePattern (frameRows 1 bs (amounts ys))
+        ++ lineOf worthPattern (s .curve0 ∷ s .curve1 ∷ s .curve2 ∷ []))
+        ≡ showing (shownOf q (planOf q))
+    shown-is n s m d =
+        let e : amounts ys ≡ charges q (planOf q) = ap amounts charges-are ∙ amounts-pos (charges q (planOf q)) in
+        rw (e, d, m, b) refl
+
+-- the front of a list with room for every frame
+pub part-long : {A : Type 0} (k : ℕ) (v : A) → k ≤ maxFrames → length (take (k - 0) (replicate maxFrames v)) ≡ k
+part-long k v h = omega (arith, length-take (k - 0) (replicate maxFrames v), length-replicate maxFrames v)
+
+-- ---- refused or not
+
+module _ (q : Request) (f : Refusal) (e : f ≡ planRefusal q (frameCount q)) where
+  -- by what its refusal is
+  listed-by : (t : Bool) → isNone f ≡ t → pick t (showing (shownOf q (planOf q))) (refusedLine f) ≡ requestText q
+  listed-by t h =
+      let g = planRefusal q (frameCount q) in
+      ap (λ (r : Refusal). pick t (showing (shownOf q (planOf q))) (refusedLine r)) e
+      ∙ sym (pick-by (isNone g) t (showing (shownOf q (planOf q))) (refusedLine g) (sym (ap isNone e) ∙ h))
+
+  pub listed : isNone f ≡ true → showing (shownOf q (planOf q)) ≡ requestText q
+  listed h = listed-by true h
+
+  pub refused : isNone f ≡ false → refusedLine f ≡ requestText q
+  refused h = listed-by false h

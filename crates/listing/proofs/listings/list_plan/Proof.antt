@@ -1,0 +1,93 @@
+-- The parts are those of the request's plan, and their lines are written one behind the other.
+use mathlib.Core.List.{List}
+use Prim.Native.Nat.{ℕ, _≤_}
+use lib.IntN.{ℤ}
+use lib.ListN.{length}
+use Rattle.model.specs.Limits.{maxFrames}
+use Rattle.model.specs.Request.{Request, request}
+use Rattle.text.proofs.Written.{puts-first, puts-same, puts-then}
+use Rattle.listing.proofs.Parts as law
+use borrow.Author.Needs.{needs}
+use Rattle.listing.proofs.listings.list_plan.Statement.{statement}
+use Rattle.listing.proofs.listings.list_plan.Tie as tie
+
+-- the request that is listed
+abbrev asked : tie.Start → Request
+asked a = request (a .args .figures) (a .args .harvest .now)
+
+accepted : (a : tie.Start) → law.Accepted (asked a)
+accepted a = law.accepted (asked a) (length (a .args .budgets .now)) (a .pre .0)
+
+-- the places before, and what stands in the lists
+abbrev start : tie.After-write-plan → tie.Start
+start p = p .before .before .before .before .before .before
+
+abbrev planned : tie.After-fill → tie.After-write-plan
+planned f = f .before .before .before .before .before
+
+abbrev budgets : tie.After-write-plan → List ℕ
+budgets p = p .write-plan .last .1 .1 .0
+
+abbrev charges : tie.After-fill → List ℤ
+charges f = f .fill .last .1 .1 .1 .0
+
+few : (p : tie.After-write-plan) → length (budgets p) ≤ maxFrames
+few p = law.budgets-few (asked (start p)) (accepted (start p)) (budgets p) (p .write-plan .ensures)
+
+needed-capacity-requires : tie.Need-needed-capacity-requires
+needed-capacity-requires c κs = accepted (c .before .before .before) .needed
+
+fill-requires : tie.Need-fill-requires
+fill-requires c κs =
+    let p = c .before .before .before .before in
+    let a = start p in
+    let w = accepted a in
+    (w .few, (law.budgets-long (asked a) w (budgets p) (p .write-plan .ensures), a .pre .1))
+
+put-frames-requires : tie.Need-put-frames-requires
+put-frames-requires c κs =
+    let f = c .before .before .before .before .before .before .before .before .before .before .before in
+    let p = planned f in
+    let q = asked (start p) in
+    let w = accepted (start p) in
+    let b = p .write-plan .ensures in (
+      few p,
+      (
+        law.charges-long q w (budgets p) b (charges f) (f .fill .ensures),
+        law.charges-shown q w (budgets p) b
+            (charges f) (f .fill .ensures),
+      ),
+    )
+
+returns : tie.Need-returns
+returns c =
+    let z = c .before .before in
+    let y = z .before .before .before .before in
+    let x = y .before .before .before .before .before .before in
+    let s = x .before .before .before in
+    let f = s .before .before .before in
+    let p = planned f in
+    let n = p .before .before in
+    puts-first
+    (puts-same
+    (law.shown-is (asked (start p)) (accepted (start p)) (budgets p) (p .write-plan .ensures) (charges f)
+    (f .fill .ensures)
+    (n .needed-capacity .result) (s .sums-of .result) (n .needed-capacity .ensures) (s .sums-of .ensures))
+    (puts-then (x .put-first .ensures) (puts-then (y .put-frames .ensures) (z .put-worth .ensures))))
+
+pub list-plan-spec : {M : Type 1} → statement M
+list-plan-spec =
+    tie.close
+    (tie.spec
+    needed-capacity-requires
+    (λ c κs. c .before .before .before .before .before .pre .0)
+    fill-requires
+    (λ c κs. few (c .before .before .before .before .before .before .before))
+    (λ c. search needs)
+    (λ c κs. search needs)
+    put-frames-requires
+    (λ c κs. search needs)
+    (λ c. search needs)
+    (λ c. search needs)
+    (λ c. search needs)
+    returns)

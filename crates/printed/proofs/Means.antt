@@ -1,0 +1,185 @@
+-- What can be read from a listing is right: its budgets are the plan, its number is the needed capacity, and after
+-- "refused 9" nothing is feasible. Equal texts show the same figures, and the text was made of the right ones.
+use mathlib.Core.Path.{_≡_, refl, sym, ap, subst, _∙_}
+use mathlib.Core.Logic.{inl, inr}
+use mathlib.Core.Bool.{Bool, true, false}
+use mathlib.Core.List.{List, [], _∷_, _++_, map}
+use Prim.Native.Nat.{ℕ, suc}
+use native.Mathlib.Omega.{arith}
+use lib.ListN.{length, getD}
+use Rattle.model.specs.declared.Refusal.{Refusal}
+use Rattle.model.specs.Choice.{pick}
+use Rattle.model.specs.Limits.{maxFrames}
+use Rattle.model.specs.Request.{Request, frameCount}
+use Rattle.model.specs.Refusals.{refusal, isNone, planRefusal}
+use Rattle.model.specs.Charge.{frameEnd, chargesFrom, charges}
+use Rattle.model.specs.Plan.{planOf}
+use Rattle.model.proofs.Needed.{needed-is}
+use Rattle.model.proofs.Refusals.{NotNine, plan-nine}
+use Rattle.model.proofs.Request.{plan-is, out-of-reach}
+use Rattle.model.proofs.Trace.{feasible-length}
+use Rattle.request.proofs.Within.{plan-within}
+use Rattle.wordfile.specs.File.{requestIn, readRefusal}
+use Rattle.wordfile.proofs.Refused.{read-small}
+use Rattle.wordfile.specs.declared.form.Form.the-variants.{Closed, Broken}
+use Rattle.text.specs.Ascii.{ascii}
+use Rattle.text.specs.Line.{lineOf, linesOf}
+use Rattle.text.proofs.Line.{line-byte}
+use Rattle.text.proofs.Tells.{AllLong, line-same, lines-same}
+use Rattle.printed.specs.Text.{firstPattern, framePattern, worthPattern, refusedPattern, refusedLine, frameRows}
+use Rattle.printed.specs.Text.{Shown, showing, shownOf, requestText, listing}
+use Rattle.printed.specs.Means.{Right, ListMeans}
+
+-- ---- equal texts show the same figures
+
+-- as many charges as budgets
+abbrev Paired : Shown → Type 0
+Paired g = length (g .charges) ≡ length (g .budgets)
+
+rows-long : (i : ℕ) (bs xs : List ℕ) → AllLong 3 (frameRows i bs xs)
+rows-long i [] xs = tt
+rows-long i (b ∷ bs) [] = tt
+rows-long i (b ∷ bs) (x ∷ xs) = (refl, rows-long (suc i) bs xs)
+
+-- the rows tell the budgets and the charges
+abbrev column : ℕ → List (List ℕ) → List ℕ
+column j rows = map (λ (ns : List ℕ). getD ns j 0) rows
+
+columns : (i : ℕ) (bs xs : List ℕ) → length xs ≡ length bs →
+    (column 1 (frameRows i bs xs) ≡ bs) × (column 2 (frameRows i bs xs) ≡ xs)
+columns i [] [] l = (refl, refl)
+columns i [] (x ∷ xs) l = absurd (omega arith)
+columns i (b ∷ bs) [] l = absurd (omega arith)
+columns i (b ∷ bs) (x ∷ xs) l =
+    let r = columns (suc i) bs xs (omega arith) in
+    (ap (λ (t : List ℕ). b ∷ t) (r .0), ap (λ (t : List ℕ). x ∷ t) (r .1))
+
+-- the last line behind its first letter
+abbrev worthTail : List ℕ
+worthTail = ascii "orth # # #\n"
+
+abbrev sums : Shown → List ℕ
+sums g = g .worth0 ∷ g .worth1 ∷ g .worth2 ∷ []
+
+pub shown-same : (g h : Shown) → Paired g → Paired h → showing g ≡ showing h → g ≡ h
+shown-same g h p q e =
+    let rows : Shown → List (List ℕ) = λ k. frameRows 1 (k .budgets) (k .charges) in
+    let rest : Shown → List ℕ = λ k. linesOf framePattern (rows k) ++ lineOf worthPattern (sums k) in
+    let a = line-same firstPattern (g .frames ∷ g .capacity ∷ g .needed ∷ [])
+    (h .frames ∷ h .capacity ∷ h .needed ∷ []) (rest g) (rest h)
+    refl refl refl e in
+    let b = lines-same 32 (ascii "# #\n") (omega arith) refl refl 119 (omega arith) (rows g) (rows h)
+    (lineOf worthTail (sums g)) (lineOf worthTail (sums h))
+    (rows-long 1 (g .budgets) (g .charges)) (rows-long 1 (h .budgets) (h .charges))
+    (rw (line-byte 119 worthTail (sums g) refl, line-byte 119 worthTail (sums h) refl) at (a .1)) in
+    let c = line-same worthTail (sums g) (sums h) [] [] refl refl refl (ap (λ (t : List ℕ). t ++ []) (b .1)) in
+    let x = columns 1 (g .budgets) (g .charges) p in
+    let y = columns 1 (h .budgets) (h .charges) q in
+    same-fields g h (a .0) (sym (x .0) ∙ (ap (column 1) (b .0) ∙ y .0)) (sym (x .1) ∙ (ap (column 2) (b .0) ∙ y .1))
+    (c .0)
+  where
+    same-fields : (g h : Shown) → g .frames ∷ g .capacity ∷ g .needed ∷ [] ≡ h .frames ∷ h .capacity ∷ h .needed ∷ [] →
+        g .budgets ≡ h .budgets → g .charges ≡ h .charges → sums g ≡ sums h → g ≡ h
+    same-fields g h a b c d =
+        let k : g .frames ≡ h .frames = cc in
+        let l : g .capacity ≡ h .capacity = cc in
+        let m : g .needed ≡ h .needed = cc in
+        let u : g .worth0 ≡ h .worth0 = cc in
+        let v : g .worth1 ≡ h .worth1 = cc in
+        let w : g .worth2 ≡ h .worth2 = cc in
+        rw (k, l, m, b, c, u, v, w) refl
+
+-- a refusal's line tells its number
+refused-same : (f g : Refusal) → refusedLine f ≡ refusedLine g → f .number ≡ g .number
+refused-same f g e =
+    let a = line-same refusedPattern (f .number ∷ f .p ∷ []) (g .number ∷ g .p ∷ []) [] [] refl refl refl
+    (ap (λ (t : List ℕ). t ++ []) e) in
+    let z = a .0 in
+    cc
+
+-- and begins with another letter than figures do
+refusal-no-figures : (f : Refusal) (g : Shown) → refusedLine f ≡ showing g → ⊥
+refusal-no-figures f g e =
+    let z : _≡_ {A = ℕ} 114 102 =
+    ap (λ (t : List ℕ). getD t 0 0)
+    (sym (line-byte 114 (ascii "efused # #\n") (f .number ∷ f .p ∷ []) refl)
+    ∙ (e ∙ ap (λ (t : List ℕ). t ++ rest)
+    (line-byte 102 (ascii "rames # capacity # needed #\n") (g .frames ∷ g .capacity ∷ g .needed ∷ []) refl))) in
+    omega arith
+  where
+    rest : List ℕ
+    rest = linesOf framePattern (frameRows 1 (g .budgets) (g .charges)) ++ lineOf worthPattern (sums g)
+
+-- ---- the listing of a request
+
+-- as many charges as harvests and budgets
+pub charges-length : (c x : ℕ) (hs bs : List ℕ) → length bs ≡ length hs → length (chargesFrom c x hs bs) ≡ length bs
+charges-length c x [] [] l = refl
+charges-length c x [] (b ∷ bs) l = absurd (omega arith)
+charges-length c x (h ∷ hs) [] l = absurd (omega arith)
+charges-length c x (h ∷ hs) (b ∷ bs) l = let i = charges-length c (frameEnd c x h b .charge) hs bs (omega arith) in
+    omega arith
+
+request-means : (q : Request) → ListMeans q (requestText q)
+request-means q = go (isNone f) refl
+  where
+    f : Refusal
+    f = planRefusal q (frameCount q)
+
+    g : Shown
+    g = shownOf q (planOf q)
+
+    -- not refused: it shows the plan's figures, so whatever figures it shows are those
+    go : (t : Bool) → isNone f ≡ t → ListMeans q (pick t (showing g) (refusedLine f))
+    go true ok =
+        let w = plan-within q (frameCount q) ok in
+        let p = plan-is q (w .figures .start-fits) (w .figures .end-fits) (w .reach) in
+        let l = charges-length (q .figures .capacity) (q .figures .start) (q .harvest) (planOf q)
+        (feasible-length q (planOf q) (p .is-feasible)) in
+        let r : Right q g =
+        record {
+          frames = refl;
+          capacity = refl;
+          needed = needed-is q (w .reach);
+          plan = p;
+          after = refl;
+          worth0 = refl;
+          worth1 = refl;
+          worth2 = refl;
+        } in
+        record {
+          form = inl (g, (l, refl));
+          right = λ h s. subst (Right q) (shown-same g h l (s .0) (s .1)) r;
+          no-plan = λ p e. absurd (refusal-no-figures (refusal 9 p) g (sym e));
+        }
+    go false k =
+        record {
+          form = inr (f, refl);
+          right = λ g s. absurd (refusal-no-figures f g (s .1));
+          no-plan = λ p e. out-of-reach q (plan-nine q (frameCount q) (refused-same f (refusal 9 p) e));
+        }
+
+-- ---- the listing of a file
+
+-- no refusal of the reader is 9
+read-not-nine : (s : List ℕ) (room : ℕ) → NotNine (readRefusal s room)
+read-not-nine s room = λ p. omega (arith, read-small s room .0)
+
+-- the listing of a file means what it shows of the file's request
+pub listing-means : (s : List ℕ) → ListMeans (requestIn s) (listing s)
+listing-means s = go (isNone f)
+  where
+    q : Request
+    q = requestIn s
+
+    f : Refusal
+    f = readRefusal s maxFrames
+
+    go : (t : Bool) → ListMeans q (pick t (requestText q) (refusedLine f))
+    go true = request-means q
+    go false =
+        record {
+          form = inr (f, refl);
+          right = λ g s. absurd (refusal-no-figures f g (s .1));
+          no-plan = λ p e. absurd (read-not-nine s maxFrames (refused-same f (refusal 9 p) e));
+        }

@@ -1,0 +1,3 @@
+-- The text that the plan program prints, and what can be read from it.
+pub mod Text
+pub mod Means

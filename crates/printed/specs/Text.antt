@@ -1,0 +1,119 @@
+-- The lines that the plan program prints, as bytes, and room for all of them.
+use mathlib.Core.List.{List, [], _∷_, _++_}
+use Prim.Native.Nat.{ℕ, suc, _+_, _*_}
+use Rattle.model.specs.declared.Refusal.{Refusal}
+use Rattle.model.specs.Choice.{pick}
+use Rattle.model.specs.Limits.{maxFrames}
+use Rattle.model.specs.Request.{Request, frameCount}
+use Rattle.model.specs.Refusals.{isNone, planRefusal}
+use Rattle.model.specs.Charge.{charges}
+use Rattle.model.specs.Curves.{houseCurve, grade}
+use Rattle.model.specs.Plan.{planOf, neededOf}
+use Rattle.wordfile.specs.File.{requestIn, readRefusal}
+use Rattle.text.specs.Ascii.{ascii}
+use Rattle.text.specs.Line.{lineOf, linesOf, roomOf}
+
+-- ---- the lines, with # for each figure
+
+-- the first line: frames, capacity, needed capacity
+abbrev pub firstPattern : List ℕ
+firstPattern = ascii "frames # capacity # needed #\n"
+
+-- a frame's line: its number, its budget, the charge after it
+abbrev pub framePattern : List ℕ
+framePattern = ascii "# # #\n"
+
+-- the last line: the sums of the three house curves
+abbrev pub worthPattern : List ℕ
+worthPattern = ascii "worth # # #\n"
+
+-- the only line of a refusal: its number and its P
+abbrev pub refusedPattern : List ℕ
+refusedPattern = ascii "refused # #\n"
+
+abbrev pub refusedLine : Refusal → List ℕ
+refusedLine f = lineOf refusedPattern (f .number ∷ f .p ∷ [])
+
+-- ---- the room of a listing
+
+-- digits of a number of frames
+abbrev pub frameDigits : ℕ
+frameDigits = 4
+
+-- digits of an energy: a capacity, a budget, a charge
+abbrev pub energyDigits : ℕ
+energyDigits = 10
+
+-- digits of what a list of budgets is worth
+abbrev pub worthDigits : ℕ
+worthDigits = 11
+
+-- bytes of the longest first line
+abbrev pub firstRoom : ℕ
+firstRoom = roomOf firstPattern (frameDigits ∷ energyDigits ∷ energyDigits ∷ [])
+
+-- bytes of the longest line of a frame
+abbrev pub frameRoom : ℕ
+frameRoom = roomOf framePattern (frameDigits ∷ energyDigits ∷ energyDigits ∷ [])
+
+-- bytes of the longest last line
+abbrev pub worthRoom : ℕ
+worthRoom = roomOf worthPattern (worthDigits ∷ worthDigits ∷ worthDigits ∷ [])
+
+-- room for every listing; that it is enough is proved (proofs/Fits.antt)
+abbrev pub listingBytes : ℕ
+listingBytes = firstRoom + (frameRoom * maxFrames + worthRoom)
+
+-- ---- the listing
+
+-- the figures of the frames' lines, a row for each frame, the first being frame i
+abbrev pub frameRows : ℕ → List ℕ → List ℕ → List (List ℕ)
+frameRows i [] xs = []
+frameRows i (b ∷ bs) [] = []
+frameRows i (b ∷ bs) (x ∷ xs) = (i ∷ b ∷ x ∷ []) ∷ frameRows (suc i) bs xs
+
+-- what a listing shows: the figures of its first line, for each frame a budget and the charge after it, and the three
+-- sums
+pub record Shown : Type 0 where
+  pub frames : ℕ
+  pub capacity : ℕ
+  pub needed : ℕ
+  pub budgets : List ℕ
+  pub charges : List ℕ
+  pub worth0 : ℕ
+  pub worth1 : ℕ
+  pub worth2 : ℕ
+
+-- the text that shows them
+abbrev pub showing : Shown → List ℕ
+showing g =
+    lineOf firstPattern (g .frames ∷ g .capacity ∷ g .needed ∷ [])
+    ++ (linesOf framePattern (frameRows 1 (g .budgets) (g .charges))
+    ++ lineOf worthPattern (g .worth0 ∷ g .worth1 ∷ g .worth2 ∷ []))
+
+-- what the listing of a request that is not refused shows, with its budgets: the charges after them and what they are
+-- worth
+abbrev pub shownOf : Request → List ℕ → Shown
+shownOf q bs =
+    record {
+      frames = frameCount q;
+      capacity = q .figures .capacity;
+      needed = neededOf q;
+      budgets = bs;
+      charges = charges q bs;
+      worth0 = grade (houseCurve 0) bs;
+      worth1 = grade (houseCurve 1) bs;
+      worth2 = grade (houseCurve 2) bs;
+    }
+
+-- the listing of a request: its plan, or its refusal
+abbrev pub requestText : Request → List ℕ
+requestText q =
+    let f = planRefusal q (frameCount q) in
+    pick (isNone f) (showing (shownOf q (planOf q))) (refusedLine f)
+
+-- what the plan program prints of a file: the reader's refusal, or the listing of its request
+abbrev pub listing : List ℕ → List ℕ
+listing s =
+    let f = readRefusal s maxFrames in
+    pick (isNone f) (requestText (requestIn s)) (refusedLine f)

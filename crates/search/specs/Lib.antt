@@ -1,0 +1,2 @@
+-- What drawing a level and trying a budget show.
+pub mod Search
