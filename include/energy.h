@@ -30,7 +30,7 @@
  * A list is a pointer and then its length in entries. It must be aligned and valid for that length, and not null even
  * where the length is 0. A list that a call writes must not overlap another list of the same call. No call keeps a
  * pointer, allocates, or touches anything but its lists, so calls on different lists may run at the same time.
- * Working lists stand on the stack: a call takes less than 128 KiB of it.
+ * Working lists stand on the stack: a call takes at most 24 KiB of it.
  */
 #ifndef ENERGY_H
 #define ENERGY_H
@@ -42,8 +42,8 @@
 extern "C" {
 #endif
 
-/* The most frames of a request. */
-#define ENERGY_MAX_FRAMES 2976
+/* The most frames of a request: a week of quarter hours. */
+#define ENERGY_MAX_FRAMES 672
 
 /* The bytes of the word file of a request of k frames, and the most bytes of a word file: those of the most frames,
  * spelt out, since bindgen expands no macro with an argument. */
@@ -54,8 +54,8 @@ extern "C" {
 #define ENERGY_MAX_CAPACITY 1000000000
 #define ENERGY_MAX_HARVEST 400000
 
-/* Room for any listing: a line of at most 50 bytes, one of at most 27 for each frame, and one of at most 42. */
-#define ENERGY_LISTING_BYTES (50 + 27 * ENERGY_MAX_FRAMES + 42)
+/* Room for any listing: a line of at most 49 bytes, one of at most 26 for each frame, and one of at most 42. */
+#define ENERGY_LISTING_BYTES (49 + 26 * ENERGY_MAX_FRAMES + 42)
 
 /* The tracer's verdicts. */
 #define ENERGY_FEASIBLE 0

@@ -1,6 +1,6 @@
 #!/usr/bin/env bash
-# The tests from outside: the Rust tests over libenergy.a, the program's among them, every function called from C, the
-# declarations for Rust against the header, and the examples in C and Rust.
+# The tests from outside: the Rust tests over libenergy.a, the program's among them, every function called from C, what
+# stack it takes, the declarations for Rust against the header, and the examples in C and Rust.
 # Its last line is 'N passed, M failed'; anything failed exits non-zero.
 set -u
 cd "$(dirname "$0")/.." || exit 2
@@ -39,6 +39,8 @@ verdict $? 'declarations for Rust are those of the header'
 if [ -f "$library" ]; then
     c_program tests/header.c "$work/header" && compare 'every function from C' tests/header.out "$work/header"
     [ -x "$work/header" ] || verdict 1 'header.c compiles'
+    c_program tests/stack.c "$work/stack" && "$work/stack" "$(sed -n 's/.* at most \([0-9]*\) KiB of it\.$/\1/p' include/energy.h)"
+    verdict $? 'the stack that the header promises'
     c_program examples/plan.c "$work/plan" && compare 'example in C' tests/example.out "$work/plan"
     [ -x "$work/plan" ] || verdict 1 'plan.c compiles'
 else

@@ -1,10 +1,11 @@
--- The cases that document 01 marks with *, in its order, and what each of them states of the definitions.
+-- The cases that document 01 marks with *, in its order, then its limits, of frames and bytes as document 02 has them;
+-- and what each of them states of the definitions.
 use mathlib.Core.Path.{_≡_}
-use mathlib.Core.List.{List, [], _∷_}
+use mathlib.Core.List.{List, [], _∷_, _++_}
 use lib.IntN.{ℤ, pos, negsuc}
 use Prim.Native.Nat.{ℕ, _+_}
 use Prim.Native.String.{String}
-use lib.ListN.{length}
+use lib.ListN.{length, replicate}
 use Rattle.model.specs.declared.Refusal.{Refusal}
 use Rattle.model.specs.Request.{Request, request, figures, frameCount}
 use Rattle.model.specs.Refusals.{refusal, none, planRefusal, neededRefusal}
@@ -40,6 +41,8 @@ pub data Case : Type 0 where
   rests : Shift → List ℕ → List ℕ → Case
   -- a request and the words of its file
   words : Request → List ℕ → Case
+  -- a file, how many bytes it has, the room of the list that it is read into, and the refusal
+  reads : List ℕ → ℕ → ℕ → Refusal → Case
   -- a request and what the plan program prints of its file
   prints : Request → String → Case
 
@@ -58,6 +61,7 @@ Holds (unrecorded s h u f) = recordRefusal s h u ≡ f
 Holds (rests s hs bs) = (restRefusal s hs (length hs) ≡ none) × (restBudgets (restRequest s hs) ≡ bs)
 Holds (words r ws) =
     (fileWords r ≡ ws) × (readRefusal (fileBytes r) (frameCount r) ≡ none) × (requestIn (fileBytes r) ≡ r)
+Holds (reads s n room f) = (length s ≡ n) × (readRefusal s room ≡ f)
 Holds (prints r t) = text.listing (fileBytes r) ≡ ascii t
 
 abbrev pub AllHold : List Case → Type 0
@@ -75,6 +79,10 @@ listing c = asked c 2 2 (6 ∷ 4 ∷ 0 ∷ 0 ∷ 5 ∷ 5 ∷ [])
 -- a shift of one frame with charge 4 and capacity 5
 abbrev pub four : Shift
 four = started (asked 5 4 0 (3 ∷ []))
+
+-- a request of that many frames with a harvest of 1 each
+abbrev pub evenly : ℕ → Request
+evenly k = asked 9 0 0 (replicate k 1)
 
 abbrev pub cases : List Case
 cases =
@@ -101,4 +109,12 @@ cases =
     ∷ unrecorded four 3 8 (refusal 21 1)
     ∷ records four 3 1 5 1
     ∷ rests (recordedBy (started (listing 5)) 1 3) (listing 5 .harvest) (2 ∷ 1 ∷ 1 ∷ 4 ∷ 4 ∷ [])
+    ∷ refused (asked 9 0 0 (400000 ∷ [])) none
+    ∷ refused (asked 9 0 0 (400001 ∷ [])) (refusal 6 1)
+    ∷ refused (evenly 672) none
+    ∷ refused (evenly 673) (refusal 2 0)
+    ∷ records (started (evenly 672)) 1 1 0 0
+    ∷ unrecorded (started (evenly 673)) 1 1 (refusal 22 0)
+    ∷ reads (fileBytes (evenly 672)) 2704 672 none
+    ∷ reads (fileBytes (evenly 672) ++ (0 ∷ [])) 2705 672 (refusal 2 0)
     ∷ []

@@ -20,12 +20,9 @@ pub record Ready (capacity start end most : ℕ) (harvest : List ℕ) : Type 0 w
   pub kept : end ≤ capacity
   pub reached : end ≤ start + total harvest
 
--- as many frames as the short lists are for: a day and a week of quarter hours
+-- as many frames as the short lists are for: a day of quarter hours
 abbrev pub day : ℕ
 day = 128
-
-abbrev pub week : ℕ
-week = 768
 
 -- harvests that can be planned by a rule, a budget for each, and no more of them than n
 abbrev pub Few : Rule → List ℕ → ℕ → List ℕ → ℕ → Type 0

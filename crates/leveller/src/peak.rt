@@ -47,7 +47,7 @@ fn peak_day(capacity: u64, start: u64, end: u64, most: u64, harvest: &[u32]) -> 
 }
 
 // The same with a list for all frames that a request may have.
-fn peak_month(capacity: u64, start: u64, end: u64, most: u64, harvest: &[u32]) -> u64
+fn peak_any(capacity: u64, start: u64, end: u64, most: u64, harvest: &[u32]) -> u64
     requires { ⌜ Ready capacity start end most (now harvest) ⌝ }
     ensures { λ r. ⌜ PeakOf capacity start end most (now (harvest .entry)) r ⌝ }
 {
@@ -70,5 +70,5 @@ pub fn plan_peak(capacity: u64, start: u64, end: u64, most: u64, harvest: &[u32]
     if harvest.len() <= DAY {
         return peak_day(capacity, start, end, most, harvest);
     }
-    peak_month(capacity, start, end, most, harvest)
+    peak_any(capacity, start, end, most, harvest)
 }

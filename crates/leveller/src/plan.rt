@@ -13,12 +13,10 @@ ghost use Rattle.model.specs.Limits.{maxFrames};
 ghost use Rattle.model.specs.Frames.{plan};
 ghost use Rattle.model.specs.Plan.{framesOf};
 ghost use Rattle.certifier.specs.Says.{Lent, Tried, PlannedAt};
-ghost use Rattle.leveller.specs.Plan.{Ready, Few, day, week};
+ghost use Rattle.leveller.specs.Plan.{Ready, Few, day};
 
-// The most frames for which short lists are taken: enough for a day and a week of quarter hours.
+// The most frames for which short lists are taken: enough for a day of quarter hours.
 pub const DAY: usize = 128;
-
-const WEEK: usize = 768;
 
 // The plan by one level for all frames.
 fn by_one_level(
@@ -96,7 +94,7 @@ fn plan_with(
     plan_by_string(rule, harvest, start, after, marks, budgets);
 }
 
-// The same with lists for a day: to clear longer ones would take as long as its plan.
+// The same with lists for a day, which take less time to clear.
 fn plan_day(rule: Rule, harvest: &[u32], start: u64, budgets: &mut [u32])
     requires { ⌜ Few rule (now harvest) start (now budgets) day ⌝ }
     ensures { λ _. ⌜ PlannedAt rule (now (harvest .entry)) start (now (budgets .exit)) ⌝ }
@@ -106,18 +104,8 @@ fn plan_day(rule: Rule, harvest: &[u32], start: u64, budgets: &mut [u32])
     plan_with(rule, harvest, start, &mut after, &mut marks, budgets);
 }
 
-// The same with lists for a week.
-fn plan_week(rule: Rule, harvest: &[u32], start: u64, budgets: &mut [u32])
-    requires { ⌜ Few rule (now harvest) start (now budgets) week ⌝ }
-    ensures { λ _. ⌜ PlannedAt rule (now (harvest .entry)) start (now (budgets .exit)) ⌝ }
-{
-    let mut after = [0u32; WEEK];
-    let mut marks = [0u32; WEEK];
-    plan_with(rule, harvest, start, &mut after, &mut marks, budgets);
-}
-
 // The same with lists for all frames that a request may have.
-fn plan_month(rule: Rule, harvest: &[u32], start: u64, budgets: &mut [u32])
+fn plan_any(rule: Rule, harvest: &[u32], start: u64, budgets: &mut [u32])
     requires { ⌜ Few rule (now harvest) start (now budgets) maxFrames ⌝ }
     ensures { λ _. ⌜ PlannedAt rule (now (harvest .entry)) start (now (budgets .exit)) ⌝ }
 {
@@ -147,9 +135,5 @@ pub fn plan_into(
         plan_day(rule, harvest, start, budgets);
         return;
     }
-    if harvest.len() <= WEEK {
-        plan_week(rule, harvest, start, budgets);
-        return;
-    }
-    plan_month(rule, harvest, start, budgets);
+    plan_any(rule, harvest, start, budgets);
 }

@@ -1,9 +1,9 @@
--- The limits of document 01, each named once.
+-- The limits of documents 01 and 02, each named once.
 use Prim.Native.Nat.{ℕ, _+_, _*_}
 
--- the most frames of a request
+-- the most frames of a request: a week of quarter hours
 abbrev pub maxFrames : ℕ
-maxFrames = 2976
+maxFrames = 672
 
 -- the words of a word file beside its harvests: three figures and the end word
 abbrev pub otherWords : ℕ

@@ -1,7 +1,7 @@
-// The limits of document 01 as constants of the code, each named once.
+// The limits of documents 01 and 02 as constants of the code, each named once.
 
-// The most frames of a request.
-pub const MAX_FRAMES: usize = 2976;
+// The most frames of a request: a week of quarter hours.
+pub const MAX_FRAMES: usize = 672;
 
 // The words of a word file beside its harvests: three figures and the end word.
 const OTHER_WORDS: usize = 4;

@@ -5,7 +5,7 @@ ghost use mathlib.Core.Path.{_≡_};
 ghost use mathlib.Core.List.{List};
 ghost use Prim.Native.Nat.{ℕ, _-_, _≤_};
 ghost use lib.ListN.{length, take};
-ghost use Rattle.printed.specs.Text.{listing};
+ghost use Rattle.printed.specs.Text.{listingBytes, listing};
 ghost use Rattle.plan.specs.Read.{BeginsWith, ReadWithin};
 use libc::STDIN_FILENO;
 use libc::STDOUT_FILENO;
@@ -53,11 +53,13 @@ fn read_input(file: &mut [u8; INPUT_BYTES]) -> Input
     Input::Bytes(have)
 }
 
-// Writes the listing of a file whose first bytes were read, as many as the list has room for, n of them.
+// Writes the listing of a file whose first bytes were read, as many as the list has room for, n of them, into a text
+// of just the room of a listing.
 fn write_listing(file: &[u8; INPUT_BYTES], n: usize, text: &mut [u8; LISTING_BYTES]) -> usize
     requires { ⌜ n ≤ length (now file) ⌝ }
     ensures { λ r. ⌜ r ≤ length (now (text .exit)) ⌝ }
     ensures { λ r. ⌜ ((s : List ℕ) → BeginsWith s (now (file .entry)) n → take r (now (text .exit)) ≡ listing s) ⌝ }
+    ensures { λ _. ⌜ length (now (text .exit)) ≡ listingBytes ⌝ }
 {
     let list = &file[..];
     listing::list(&list[0..n], text)

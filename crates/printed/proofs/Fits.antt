@@ -28,16 +28,13 @@ use Rattle.text.proofs.Line.{line-fits}
 use Rattle.text.proofs.Written.{wrote-whole}
 use Rattle.printed.specs.Text as T
 use Rattle.printed.specs.Text.{firstPattern, framePattern, worthPattern, refusedPattern, refusedLine}
-use Rattle.printed.specs.Text.{frameDigits, energyDigits, worthDigits, frameRoom, listingBytes, frameRows}
-use Rattle.printed.specs.Text.{showing, shownOf, requestText, listing}
+use Rattle.printed.specs.Text.{frameDigits, energyDigits, worthDigits, largestEnergy, frameRoom, listingBytes}
+use Rattle.printed.specs.Text.{frameRows, showing, shownOf, requestText, listing}
 use Rattle.printed.proofs.Short.{Short, plan-short, read-short}
 
--- the most energy of a request that is not refused
-abbrev most : ℕ
-most = maxCapacity + maxHarvest * maxFrames
-
 -- the lines of all frames: no charge is above the capacity, no budget above their sum
-frames-fit : (c x i : ℕ) (hs bs : List ℕ) → c ≤ maxCapacity → total bs ≤ most → i + length bs ≤ 10 ^ 4 →
+frames-fit : (c x i : ℕ) (hs bs : List ℕ) → c ≤ maxCapacity → total bs ≤ largestEnergy →
+    i + length bs ≤ suc maxFrames →
     length (linesOf framePattern (frameRows i bs (chargesFrom c x hs bs))) ≤ frameRoom * length bs
 frames-fit c x i [] [] hc hb hi = omega arith
 frames-fit c x i [] (b ∷ bs) hc hb hi = omega arith
@@ -63,16 +60,16 @@ grade-bound c (b ∷ bs) =
     sums : (w v a b : ℕ) → w ≤ 24 * a → v ≤ 24 * b → w + v ≤ 24 * (a + b)
     sums w v a b p q = omega arith
 
-grade-small : (c : ℕ) (bs : List ℕ) → total bs ≤ most → grade (houseCurve c) bs < 10 ^ 11
+grade-small : (c : ℕ) (bs : List ℕ) → total bs ≤ largestEnergy → grade (houseCurve c) bs < 10 ^ worthDigits
 grade-small c bs h = below (grade (houseCurve c) bs) (total bs) (grade-bound c bs) h
   where
-    below : (v t : ℕ) → v ≤ 24 * t → t ≤ most → v < 10 ^ 11
+    below : (v t : ℕ) → v ≤ 24 * t → t ≤ largestEnergy → v < 10 ^ worthDigits
     below v t p h = omega arith
 
 -- the listing of budgets whose sum is within the most energy
 shown-fits : (q : Request) (bs : List ℕ) → length bs ≤ maxFrames → frameCount q ≤ maxFrames →
     q .figures .capacity ≤ maxCapacity →
-    total bs ≤ most → neededOf q ≤ most → length (showing (shownOf q bs)) ≤ listingBytes
+    total bs ≤ largestEnergy → neededOf q ≤ largestEnergy → length (showing (shownOf q bs)) ≤ listingBytes
 shown-fits q bs l k c t n =
     let first = frameCount q ∷ q .figures .capacity ∷ neededOf q ∷ [] in
     let rows = frameRows 1 bs (charges q bs) in

@@ -11,7 +11,7 @@ use Rattle.model.specs.Plan.{framesOf, planOf, openPlan, neededOf}
 use Rattle.model.proofs.Request.{plan-demand}
 use Rattle.model.proofs.Needed.{needed-demand}
 use Rattle.wordfile.specs.File.{fileBytes}
-use Rattle.text.specs.Decimal.{places, decimal}
+use Rattle.text.specs.Decimal.{decimal}
 use Rattle.text.specs.Line.{lineOf}
 use Rattle.printed.specs.Text.{refusedLine, Shown, showing, listing}
 use Rattle.printed.specs.Means.{ListMeans}
@@ -35,5 +35,5 @@ other-needed-refused g l m = needed-demand asked (omega arith) .only-needed (g .
 
 -- the listing of its file is no refusal, whatever number and P
 pub refusal-refused : (f : Refusal) → listing (fileBytes asked) ≡ refusedLine f → ⊥
-unfolding places decimal lineOf planOf openPlan neededOf framesOf plan budget largest reserve requirement peak
+unfolding decimal lineOf planOf openPlan neededOf framesOf plan budget largest reserve requirement peak
 refusal-refused f e = let z : _≡_ {A = ℕ} 102 114 = ap (λ (t : List ℕ). getD t 0 0) e in omega arith

@@ -3,7 +3,7 @@ use mathlib.Core.List.{List, [], _∷_, _++_}
 use Prim.Native.Nat.{ℕ, suc, _+_, _*_}
 use Rattle.model.specs.declared.Refusal.{Refusal}
 use Rattle.model.specs.Choice.{pick}
-use Rattle.model.specs.Limits.{maxFrames}
+use Rattle.model.specs.Limits.{maxFrames, maxHarvest, maxCapacity}
 use Rattle.model.specs.Request.{Request, frameCount}
 use Rattle.model.specs.Refusals.{isNone, planRefusal}
 use Rattle.model.specs.Charge.{charges}
@@ -11,6 +11,7 @@ use Rattle.model.specs.Curves.{houseCurve, grade}
 use Rattle.model.specs.Plan.{planOf, neededOf}
 use Rattle.wordfile.specs.File.{requestIn, readRefusal}
 use Rattle.text.specs.Ascii.{ascii}
+use Rattle.text.specs.Decimal.{places}
 use Rattle.text.specs.Line.{lineOf, linesOf, roomOf}
 
 -- ---- the lines, with # for each figure
@@ -38,15 +39,19 @@ refusedLine f = lineOf refusedPattern (f .number ∷ f .p ∷ [])
 
 -- digits of a number of frames
 abbrev pub frameDigits : ℕ
-frameDigits = 4
+frameDigits = places maxFrames
+
+-- the most energy that any request may have
+abbrev pub largestEnergy : ℕ
+largestEnergy = maxCapacity + maxHarvest * maxFrames
 
 -- digits of an energy: a capacity, a budget, a charge
 abbrev pub energyDigits : ℕ
-energyDigits = 10
+energyDigits = places largestEnergy
 
--- digits of what a list of budgets is worth
+-- digits of what a list of budgets is worth: no unit earns more than 24
 abbrev pub worthDigits : ℕ
-worthDigits = 11
+worthDigits = places (24 * largestEnergy)
 
 -- bytes of the longest first line
 abbrev pub firstRoom : ℕ

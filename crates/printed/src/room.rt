@@ -2,7 +2,7 @@
 use model::limits::MAX_FRAMES;
 
 // Digits of a number of frames, of an energy, of what a list of budgets is worth.
-const FRAME_DIGITS: usize = 4;
+const FRAME_DIGITS: usize = 3;
 
 const ENERGY_DIGITS: usize = 10;
 

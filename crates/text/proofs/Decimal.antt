@@ -56,7 +56,7 @@ places-in (suc f) n l = go (ltb n 10) refl (λ g. places-in f (n / 10) g)
 
 -- the digits that the kit gives are the number's
 pub digits-are : (n k : ℕ) → Fewest 10 1 n k → digits 10 k n ≡ decimal n
-unfolding decimal places
+unfolding decimal
 digits-are n k a = ap (λ (j : ℕ). digits 10 j n) (one-fewest n k (placesIn n n) a (places-in n n (omega arith)))
 
 -- the same, of the part of a list that holds the kit's digits
@@ -74,7 +74,7 @@ digits-length b (suc k) n =
 
 -- a number that k digits can hold is written in at most k
 pub decimal-length : (n k : ℕ) → 1 ≤ k → n < 10 ^ k → length (decimal n) ≤ k
-unfolding decimal places
+unfolding decimal
 decimal-length n k l h =
     let a = places-in n n (omega arith) in
     rw (digits-length 10 (placesIn n n) n)

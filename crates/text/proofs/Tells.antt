@@ -39,7 +39,7 @@ digits-value (suc k) n h =
 
 -- the digits of a number tell it
 decimal-value : (n : ℕ) → value 0 (decimal n) ≡ n
-unfolding decimal places
+unfolding decimal
 decimal-value n = digits-value (placesIn n n) n (places-in n n (omega arith) .1)
 
 -- a list of digits' bytes

@@ -11,7 +11,7 @@ placesIn zero n = 1
 placesIn (suc f) n = elim (ltb n 10) [ true ↦ 1 | false ↦ suc (placesIn f (n / 10)) ]
 
 -- how many decimal digits a number has
-unfoldable pub places : ℕ → ℕ
+abbrev pub places : ℕ → ℕ
 places n = placesIn n n
 
 -- a number in decimal digits

@@ -1,10 +1,10 @@
 //! The declarations of include/energy.h, made by rust/energy/bindings: not written by hand.
 
-pub const ENERGY_MAX_FRAMES: u32 = 2976;
-pub const ENERGY_MAX_FILE_BYTES: u32 = 11920;
+pub const ENERGY_MAX_FRAMES: u32 = 672;
+pub const ENERGY_MAX_FILE_BYTES: u32 = 2704;
 pub const ENERGY_MAX_CAPACITY: u32 = 1000000000;
 pub const ENERGY_MAX_HARVEST: u32 = 400000;
-pub const ENERGY_LISTING_BYTES: u32 = 80444;
+pub const ENERGY_LISTING_BYTES: u32 = 17563;
 pub const ENERGY_FEASIBLE: u32 = 0;
 pub const ENERGY_END_TOO_LOW: u32 = 1;
 pub const ENERGY_BELOW_ZERO: u32 = 2;

@@ -1,8 +1,11 @@
 //! Families of harvests and capacities for tests and benchmarks.
 
 use crate::random::Random;
-use crate::reference::limits::MAX_CAPACITY;
+use crate::reference::limits::{MAX_CAPACITY, MAX_FRAMES};
 use energy::Figures;
+
+/// The numbers of frames of large requests: a day, half a week and a week of quarter hours, which is the most.
+pub const FRAMES: [usize; 3] = [96, 336, MAX_FRAMES];
 
 /// A family of harvests.
 #[derive(Clone, Copy, Debug, PartialEq, Eq)]

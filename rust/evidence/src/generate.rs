@@ -13,7 +13,7 @@ fn frames(random: &mut Random) -> usize {
     match random.up_to(999) {
         0 => MAX_FRAMES + 1 - random.up_to(2) as usize,
         1..=9 => 0,
-        10..=12 => 100 + random.up_to(600) as usize,
+        10..=12 => 100 + random.up_to(MAX_FRAMES as u64 - 100) as usize,
         13..=29 => 30 + random.up_to(70) as usize,
         30..=159 => 10 + random.up_to(20) as usize,
         _ => 1 + random.up_to(9) as usize,
@@ -191,8 +191,9 @@ fn on(random: &mut Random) -> Case {
 
 /// Changes one field.
 fn change(shift: &mut Shift, random: &mut Random) {
-    let small = random.up_to_u32(3_000);
-    let any = *random.pick(&[0, 1, small, MAX_CAPACITY, MAX_CAPACITY + 1, u32::MAX]);
+    let most = MAX_FRAMES as u32;
+    let small = random.up_to_u32(most);
+    let any = *random.pick(&[0, 1, small, most, most + 1, MAX_CAPACITY, MAX_CAPACITY + 1, u32::MAX]);
     let wide = *random.pick(&[0, 1, u64::from(any), u64::MAX, u64::MAX - u64::from(any), 1 << 63]);
     let Shift { terms, now } = shift;
     let totals = &mut now.totals;
@@ -291,7 +292,7 @@ fn likely_words(random: &mut Random) -> Vec<u8> {
 
 /// A file near the largest size; seldom, since it takes long to compare.
 fn sized_file(random: &mut Random) -> Vec<u8> {
-    if !random.one_in(100) {
+    if !random.one_in(20) {
         return well_formed(1, random);
     }
     let mut bytes = well_formed(MAX_FRAMES - random.up_to(1) as usize, random);
@@ -355,7 +356,7 @@ fn planning(random: &mut Random) -> Case {
 
 /// Calls that take no planning, at the limit of the frames more often: tracing, grading, writing.
 fn plain(random: &mut Random) -> Case {
-    let frames = if random.one_in(100) {
+    let frames = if random.one_in(20) {
         MAX_FRAMES + random.up_to(1) as usize
     } else {
         frames(random)

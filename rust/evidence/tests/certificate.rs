@@ -5,7 +5,7 @@ use evidence::algorithms::certificate::frame::{Frame, Frames, Listed, Plain};
 use evidence::algorithms::certificate::search::search;
 use evidence::algorithms::certificate::sight::{draw_by_sight, first_apex, ALLOWANCE};
 use evidence::algorithms::certificate::{by_split, by_string, needed, plan_frames, Counters, Scratch};
-use evidence::families::{full, request, Family, Size, FAMILIES, SIZES};
+use evidence::families::{full, request, Family, Size, FAMILIES, FRAMES, SIZES};
 use evidence::random::{seed, Random};
 use evidence::reference::charge::Store;
 use evidence::reference::limits::MAX_FRAMES;
@@ -321,7 +321,7 @@ fn small_requests_of_document_01_against_the_definition() {
 #[test]
 fn families_and_sizes() {
     let mut seen = Seen::default();
-    for frames in [1, 2, 96, 336, 672, MAX_FRAMES] {
+    for frames in [1, 2].into_iter().chain(FRAMES) {
         for most in [7, 1_000, 400_000] {
             for (i, family) in FAMILIES.into_iter().enumerate() {
                 for size in SIZES {
@@ -380,10 +380,10 @@ fn large_general_requests() {
     let mut seen = Seen::default();
     for case in 0..2_000 {
         let mut random = Random::of_case(seed(), 10_000_000 + case);
-        let frames = *random.pick(&[96, 336, 672, MAX_FRAMES]);
+        let frames = *random.pick(&FRAMES);
         let request = large(frames, &mut random);
         let plan = seen.plan(&request);
-        if frames < MAX_FRAMES && case % 4 == 0 {
+        if case % 4 == 0 {
             assert_eq!(plan, searched(&request), "case {case}");
         }
     }

@@ -2,7 +2,7 @@
 
 use energy::Figures;
 use evidence::cases::Case;
-use evidence::families::{full, request, FAMILIES, FULL, SIZES};
+use evidence::families::{full, request, FAMILIES, FRAMES, FULL, SIZES};
 use evidence::random::{seed, Random};
 use evidence::reference::limits::MAX_FRAMES;
 use evidence::reference::needed::needed;
@@ -53,7 +53,7 @@ fn families(frames: usize, most: u32, method: PlanMethod) {
 
 #[test]
 fn a_day_half_a_week_and_a_week() {
-    for frames in [96, 336, 672] {
+    for frames in FRAMES {
         for most in [7, 1_000, 400_000] {
             families(frames, most, by_filling);
         }
@@ -61,8 +61,7 @@ fn a_day_half_a_week_and_a_week() {
 }
 
 #[test]
-fn the_longest_requests() {
-    families(MAX_FRAMES, 1_000, by_filling);
+fn a_week_by_another_method() {
     families(MAX_FRAMES, 400_000, by_reserve);
 }
 
@@ -83,7 +82,7 @@ fn random_large_requests() {
 fn random_figures_with_large_requests() {
     for case in 0..40 {
         let mut random = Random::of_case(seed(), 6_000_000 + case);
-        let frames = 100 + random.up_to(600) as usize;
+        let frames = 100 + random.up_to(MAX_FRAMES as u64 - 100) as usize;
         let most = *random.pick(&[2, 50, 1_000, 400_000]);
         let harvest = random.pick(&FAMILIES).harvest(frames, most, &mut random);
         let capacity = random.up_to_u32(most * 40);

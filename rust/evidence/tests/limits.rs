@@ -1,4 +1,4 @@
-//! Cases at the limits: each bound passes, and one more is refused.
+//! Cases around the limits, compared with the reference, whose own limits are in `worked.rs`.
 
 use energy::{Energy, Figures, Present, Refusal, Shift, Terms, Totals, LISTING_BYTES};
 use evidence::cases::{Call, Case};
@@ -15,20 +15,12 @@ fn compare(case: Case) {
     }
 }
 
-/// The reference's refusal number of a plan, 0 if it is accepted.
-fn refusal_number(figures: Figures, harvest: &[u32]) -> u32 {
-    let mut budgets = vec![0; harvest.len()];
-    Reference
-        .plan(figures, harvest, &mut budgets)
-        .map_or_else(Refusal::number, |()| 0)
-}
-
 fn figures(capacity: u32, start: u32, end: u32) -> Figures {
     Figures { capacity, start, end }
 }
 
 #[test]
-fn the_bindings_limits_are_document_01s() {
+fn the_bindings_limits_are_the_references() {
     assert_eq!(energy::MAX_FRAMES, MAX_FRAMES);
     assert_eq!(energy::MAX_FILE_BYTES, MAX_FILE_BYTES);
     assert_eq!(energy::MAX_HARVEST, MAX_HARVEST);
@@ -41,9 +33,7 @@ fn the_bindings_limits_are_document_01s() {
 }
 
 #[test]
-fn a_harvest_of_400_000_passes_and_400_001_does_not() {
-    assert_eq!(refusal_number(figures(9, 0, 0), &[MAX_HARVEST]), 0);
-    assert_eq!(refusal_number(figures(9, 0, 0), &[MAX_HARVEST + 1]), 6);
+fn harvests_around_the_limit() {
     for harvest in [vec![MAX_HARVEST], vec![0, MAX_HARVEST + 1, u32::MAX], vec![u32::MAX; 3]] {
         compare(Case::Plan {
             figures: figures(9, 0, 0),
@@ -54,9 +44,7 @@ fn a_harvest_of_400_000_passes_and_400_001_does_not() {
 }
 
 #[test]
-fn the_most_frames_pass_and_one_more_do_not() {
-    assert_eq!(refusal_number(figures(9, 0, 0), &[1; MAX_FRAMES]), 0);
-    assert_eq!(refusal_number(figures(9, 0, 0), &[1; MAX_FRAMES + 1]), 2);
+fn frames_around_the_limit() {
     for count in [0, 1, MAX_FRAMES, MAX_FRAMES + 1, 4 * MAX_FRAMES] {
         let harvest = vec![7; count];
         let figures = figures(9, 3, 3);
@@ -95,6 +83,35 @@ fn the_most_frames_pass_and_one_more_do_not() {
                 Call::Part { budgets: count },
             ],
         });
+    }
+}
+
+#[test]
+fn records_around_the_limit() {
+    for frames in [MAX_FRAMES, MAX_FRAMES + 1] {
+        let terms = Terms {
+            frames: frames as u32,
+            capacity: 9,
+            start: 3,
+            end: 3,
+        };
+        let now = Present {
+            charge: 3,
+            ..Present::default()
+        };
+        for call in [
+            Call::Record { harvest: 5, used: 8 },
+            Call::Rest {
+                harvest: vec![7; frames],
+                budgets: frames,
+            },
+            Call::Part { budgets: frames },
+        ] {
+            compare(Case::On {
+                shift: Shift { terms, now },
+                call,
+            });
+        }
     }
 }
 
@@ -179,6 +196,17 @@ fn files_around_the_largest_size() {
             });
         }
     }
+}
+
+/// The most energy is the largest capacity and the largest harvest in every frame, and no unit earns more than 24.
+#[test]
+fn the_room_of_a_listing_is_that_of_lines_with_the_largest_figures() {
+    let energy = u64::from(MAX_CAPACITY) + u64::from(MAX_HARVEST) * MAX_FRAMES as u64;
+    let worth = 24 * energy;
+    let first = format!("frames {MAX_FRAMES} capacity {MAX_CAPACITY} needed {energy}\n");
+    let frame = format!("{MAX_FRAMES} {energy} {MAX_CAPACITY}\n");
+    let last = format!("worth {worth} {worth} {worth}\n");
+    assert_eq!(LISTING_BYTES, first.len() + MAX_FRAMES * frame.len() + last.len());
 }
 
 #[test]

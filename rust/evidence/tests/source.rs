@@ -2,9 +2,8 @@
 
 use energy::Figures;
 use evidence::algorithms::source::recursive_decomposition;
-use evidence::families::{request, FAMILIES, SIZES};
+use evidence::families::{request, FAMILIES, FRAMES, SIZES};
 use evidence::random::{seed, Random};
-use evidence::reference::limits::MAX_FRAMES;
 use evidence::under_test;
 
 /// The fractions of a request.
@@ -40,7 +39,7 @@ fn compare(figures: Figures, harvest: &[u32]) {
 
 #[test]
 fn large_requests_of_every_family() {
-    for frames in [96, 672, MAX_FRAMES] {
+    for frames in FRAMES {
         for family in FAMILIES {
             for size in SIZES {
                 let mut random = Random::of_case(seed(), 7_000_000);

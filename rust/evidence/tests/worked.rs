@@ -1,4 +1,4 @@
-//! Document 01's cases worked by hand, through every implementation.
+//! Document 01's cases worked by hand, its limits as document 02 has them, through every implementation.
 
 use energy::{Energy, Figures, Present, Refusal, Rest, Shift, Terms, Totals, Verdict, LISTING_BYTES};
 use evidence::reference::limits::MAX_FILE_BYTES;
@@ -168,6 +168,51 @@ fn the_listing() {
         assert_eq!(listing(&*energy, &[]), "refused 8 0\n", "{}", energy.name());
         let too_long = [0; MAX_FILE_BYTES + 1];
         assert_eq!(listing(&*energy, &too_long), "refused 2 0\n", "{}", energy.name());
+    }
+}
+
+/// The limits, of frames and bytes as document 02 has them: each passes, and one more is refused.
+#[test]
+fn the_limits() {
+    for energy in all() {
+        let plan = |harvest: &[u32]| plan(&*energy, figures(9, 0, 0), harvest).map(|budgets| budgets.len());
+        assert_eq!(plan(&[400_000]), Ok(1), "{}", energy.name());
+        assert_eq!(
+            plan(&[400_001]),
+            Err(Refusal::HarvestOverLimit { frame: 1 }),
+            "{}",
+            energy.name()
+        );
+        assert_eq!(plan(&[1; 672]), Ok(672), "{}", energy.name());
+        assert_eq!(plan(&[1; 673]), Err(Refusal::TooLong), "{}", energy.name());
+
+        let mut file = [0; 2_705];
+        let written = energy.write(figures(9, 0, 0), &[1; 672], &mut file);
+        assert_eq!(written, Ok(2_704), "{}", energy.name());
+        let read = |bytes: usize| energy.read(&file[..bytes], &mut [0; 672]).map(|header| header.frames);
+        assert_eq!(read(2_704), Ok(672), "{}", energy.name());
+        assert_eq!(read(2_705), Err(Refusal::TooLong), "{}", energy.name());
+
+        let recorded = |frames: u32| match energy.shift_record(unrecorded(frames), 1, 1) {
+            Ok(shift) => Ok(shift.now.recorded),
+            Err(not) => Err(not.refusal),
+        };
+        assert_eq!(recorded(672), Ok(1), "{}", energy.name());
+        assert_eq!(recorded(673), Err(Refusal::NotAShift), "{}", energy.name());
+    }
+}
+
+/// The record of an empty store, of so many frames, none of them recorded.
+fn unrecorded(frames: u32) -> Shift {
+    let terms = Terms {
+        frames,
+        capacity: 9,
+        start: 0,
+        end: 0,
+    };
+    Shift {
+        terms,
+        now: Present::default(),
     }
 }
 

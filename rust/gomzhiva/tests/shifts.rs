@@ -3,7 +3,7 @@
 mod common;
 
 use common::{column, request_text, standing, Folder, Ran, DAY};
-use energy::{Energy, Figures, Present, Rest, Shift};
+use energy::{Energy, Figures, Present, Rest, Shift, MAX_FRAMES};
 use evidence::random::{seed, Random};
 use evidence::reference::logbook::Logbook;
 use evidence::reference::Reference;
@@ -19,6 +19,9 @@ use std::time::Duration;
 const SHOW: [&str; 5] = ["shift", "show", "--csv", "--journal", "journal"];
 const PLAN: [&str; 4] = ["shift", "plan", "--journal", "journal"];
 const CHART: [&str; 4] = ["shift", "chart", "--journal", "journal"];
+const RECORD: [&str; 6] = ["shift", "record", "1", "1", "--journal", "journal"];
+/// Every command on a journal.
+const COMMANDS: [&[&str]; 4] = [&SHOW, &PLAN, &CHART, &RECORD];
 
 fn start(folder: &Folder, request: &str) -> Ran {
     folder.run_with(&["shift", "start", "-", "--journal", "journal"], request.as_bytes())
@@ -358,12 +361,7 @@ fn a_last_line_that_lacks_only_its_end_counts() {
 fn assert_damaged(folder: &Folder, line: usize) {
     let before = folder.read("journal");
     let place = format!("journal:{line}:1: ");
-    for arguments in [
-        &SHOW[..],
-        &PLAN,
-        &CHART,
-        &["shift", "record", "1", "1", "--journal", "journal"],
-    ] {
+    for arguments in COMMANDS {
         let ran = folder.run(arguments);
         assert_eq!((ran.status, ran.text().as_str()), (Some(2), ""), "{before:?}");
         assert!(
@@ -411,6 +409,30 @@ fn every_damage_is_refused_with_its_line() {
         folder.write("journal", damaged);
         assert_damaged(&folder, line);
     }
+}
+
+#[test]
+fn a_journal_of_a_longer_shift_than_there_may_be_is_refused() {
+    let folder = Folder::new();
+    let call = format!("start capacity 5 start 2 end 2 harvest{}", " 1".repeat(MAX_FRAMES + 1));
+    folder.write("journal", format!("{call} *{:08x}\n", crc32fast::hash(call.as_bytes())));
+    let before = folder.read("journal");
+    for arguments in COMMANDS {
+        let ran = folder.run(arguments);
+        assert_eq!(ran.status, Some(1), "{}", ran.err);
+        assert!(
+            ran.err.starts_with("gomzhiva: refused 2 0: there are more than "),
+            "{}",
+            ran.err
+        );
+        assert!(
+            ran.err.ends_with("; journal starts such a shift, and stays as it is\n"),
+            "{}",
+            ran.err
+        );
+    }
+    assert_eq!(folder.read("journal"), before);
+    assert_eq!(folder.names(), ["journal"]);
 }
 
 #[test]

@@ -11,7 +11,7 @@ hand-over-requires : tie.Need-hand-over-requires
 hand-over-requires c κs =
     let w = c .before .before .write-listing in
     let z : w .result - 0 ≡ w .result = omega arith in
-    λ s b. ap (λ (k : ℕ). take k (w .last .1 .1 .0)) z ∙ w .ensures .1 s b
+    λ s b. ap (λ (k : ℕ). take k (w .last .1 .1 .0)) z ∙ w .ensures .1 .0 s b
 
 pub show-spec : {M : Type 1} → statement M
 show-spec =

@@ -16,10 +16,13 @@ returns c =
     let l = c .list2 in
     let z : s .n - 0 ≡ s .n = omega arith in (
       omega (arith, l .ensures .text .count),
-      λ t b.
-          l .ensures .whole (omega arith) .1
-          ∙ (ap (λ (k : ℕ). listing (take k (s .file .now))) z
-          ∙ law.listing-of-read t (s .file .now) (s .n) (omega arith) b),
+      (
+        λ t b.
+            l .ensures .whole (omega arith) .1
+            ∙ (ap (λ (k : ℕ). listing (take k (s .file .now))) z
+            ∙ law.listing-of-read t (s .file .now) (s .n) (omega arith) b),
+        omega arith,
+      ),
     )
 
 pub write-listing-spec : {M : Type 1} → statement M

@@ -1,10 +1,10 @@
-//! The limits of document 01, each named once.
+//! The limits of documents 01 and 02, each named once.
 
-/// The most frames of a request.
-pub const MAX_FRAMES: usize = 2_976;
+/// The most frames of a request: a week of quarter hours.
+pub const MAX_FRAMES: usize = 672;
 
 /// The most bytes of a word file.
-pub const MAX_FILE_BYTES: usize = 11_920;
+pub const MAX_FILE_BYTES: usize = 2_704;
 
 /// The largest harvest of a frame.
 pub const MAX_HARVEST: u32 = 400_000;

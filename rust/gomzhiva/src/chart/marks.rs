@@ -83,9 +83,9 @@ pub fn budget_steps(page: &Page<'_>, points: &[Point], frames: usize) -> Drawn {
 
 /// Lines get thinner as the frames get narrower.
 fn line_width(frames: usize) -> u32 {
-    match frames {
-        0..=120 => 13,
-        121..=1000 => 10,
-        _ => 7,
+    if frames <= 120 {
+        13
+    } else {
+        10
     }
 }

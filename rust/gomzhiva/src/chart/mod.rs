@@ -214,7 +214,7 @@ mod tests {
 
     #[test]
     fn each_frame_has_a_bar_and_a_step() {
-        for frames in [0, 1, 6, 96, 672, MAX_FRAMES] {
+        for frames in [0, 1, 6, 96, MAX_FRAMES] {
             let outlines = outlines(&even_svg(frames, (7, 5, 9), PLAN));
             let lower = &outlines[outlines.len() - 2..];
             assert_eq!(lower[0].len(), 4 * frames, "bars");
@@ -280,7 +280,7 @@ mod tests {
             even_svg(0, (0, 0, 0), PLAN),
             even_svg(6, (0, 0, 0), none),
             even_svg(1, (u32::MAX, 0, i64::MAX), most()),
-            even_svg(MAX_FRAMES, (400_000, u32::MAX, -13_000_000_000_000), most()),
+            even_svg(MAX_FRAMES, (400_000, u32::MAX, -2_900_000_000_000), most()),
             even_svg(MAX_FRAMES, (0, u32::MAX, i64::MIN), PLAN),
             svg(&Picture {
                 charges: &[i64::MIN, i64::MAX, 0, -1, 0, 1],
@@ -296,7 +296,7 @@ mod tests {
 
     #[test]
     fn a_week_is_small_and_always_the_same() {
-        let week = || even_svg(672, (4_999, 2_500, 88_888), PLAN);
+        let week = || even_svg(MAX_FRAMES, (4_999, 2_500, 88_888), PLAN);
         assert!(week().len() < 300_000);
         assert_eq!(week(), week());
     }

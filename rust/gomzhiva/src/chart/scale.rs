@@ -6,9 +6,10 @@ use plotters::prelude::Ranged;
 use std::iter::successors;
 use std::ops::Range;
 
-/// Quarter hours, half hours, whole hours and parts of a day; whole days follow.
-const FRAME_STEPS: [usize; 7] = [1, 2, 4, 8, 12, 24, 48];
-const FRAMES_OF_A_DAY: usize = 96;
+/// Quarter hours, half hours, whole hours and parts of a day.
+const FRAME_STEPS: [usize; 6] = [1, 2, 4, 8, 12, 24];
+/// The step of the longest requests, up to a week.
+const HALF_A_DAY: usize = 48;
 /// The characters for which the frame axis has room, two of them blank after each number.
 const FRAME_AXIS_CHARACTERS: usize = 110;
 const MOST_WATT_HOUR_STEPS: f64 = 8.0;
@@ -101,12 +102,10 @@ impl Ranged for Scale {
 /// The smallest step with which the numbers of the frames have room on their axis.
 fn frame_step(frames: usize) -> usize {
     let characters = grouped(frames as i128).len() + 2;
-    let days = successors(Some(FRAMES_OF_A_DAY), |days| days.checked_mul(2));
     FRAME_STEPS
         .into_iter()
-        .chain(days)
         .find(|step| frames / step <= FRAME_AXIS_CHARACTERS / characters)
-        .unwrap_or(usize::MAX)
+        .unwrap_or(HALF_A_DAY)
 }
 
 /// The smallest of 1, 2, 5, 10, 20, 50, … that is at least `least`.
@@ -129,20 +128,21 @@ pub fn grouped(number: i128) -> String {
 #[cfg(test)]
 mod tests {
     use super::*;
+    use energy::MAX_FRAMES;
 
     #[test]
     fn thousands_are_grouped() {
         assert_eq!(grouped(0), "0");
         assert_eq!(grouped(999), "999");
         assert_eq!(grouped(1_000), "1,000");
-        assert_eq!(grouped(2_190_400_000), "2,190,400,000");
+        assert_eq!(grouped(1_268_800_000), "1,268,800,000");
         assert_eq!(grouped(-13_000_050), "−13,000,050");
     }
 
     #[test]
     fn watt_hours_have_whole_numbers() {
         for high in [0.0, 1.0, 2.0, 7.0, 99.0, 1_001.0, 4_294_967_295.0] {
-            for low in [0.0, -1.0, -5.0, -13e12] {
+            for low in [0.0, -1.0, -5.0, -2.9e12] {
                 let ticks = Scale::of_watt_hours(low, high).ticks;
                 assert!((2..=10).contains(&ticks.len()), "{low} to {high}: {ticks:?}");
                 assert!(ticks.iter().all(|tick| tick.fract() == 0.0));
@@ -152,12 +152,11 @@ mod tests {
     }
 
     #[test]
-    fn frames_have_numbers_of_whole_hours_or_days() {
+    fn frames_have_numbers_of_hours_and_parts_of_a_day() {
         assert_eq!(frame_step(0), 1);
         assert_eq!(frame_step(6), 1);
         assert_eq!(frame_step(96), 4);
-        assert_eq!(frame_step(672), 48);
-        assert_eq!(frame_step(3000), 192);
+        assert_eq!(frame_step(MAX_FRAMES), 48);
         assert_eq!(Scale::of_frames(6).ticks, [1.0, 2.0, 3.0, 4.0, 5.0, 6.0]);
     }
 }

@@ -192,13 +192,15 @@ fn lock_and_read(path: &Path, purpose: Purpose) -> io::Result<(File, Vec<u8>)> {
 
 /// The shift that a journal's first line starts.
 fn first_line(path: &Path, line: &[u8]) -> Result<(Running, Seal), Failure> {
-    let opened = Seal::default()
-        .open(line)
-        .and_then(|(text, seal)| match Call::parse(text) {
-            Some(Call::Start(request)) => Some((Running::start(request).ok()?, seal)),
-            _ => None,
-        });
-    opened.ok_or_else(|| damaged(path, 1, "the start of a shift, as a journal begins,", line))
+    let opened = Seal::default().open(line);
+    match opened.and_then(|(text, seal)| Some((Call::parse(text)?, seal))) {
+        Some((Call::Start(request), seal)) => {
+            let why = format!("{} starts such a shift, and stays as it is", path.display());
+            let running = Running::start(request).map_err(|refusal| Failure::from(refusal).with(&why))?;
+            Ok((running, seal))
+        }
+        _ => Err(damaged(path, 1, "the start of a shift, as a journal begins,", line)),
+    }
 }
 
 /// The failure of a journal that is not as it was written; nothing of it is changed.

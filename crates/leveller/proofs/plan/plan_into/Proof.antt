@@ -10,18 +10,13 @@ plan-day-requires c κs =
     let s = c .before .before .before .before in
     (law.startable (s .pre .0), s .pre .1, c .before .if1 .taken)
 
-plan-week-requires : tie.Need-plan-week-requires
-plan-week-requires c κs =
-    let s = c .before .before .before .before .before in
-    (law.startable (s .pre .0), s .pre .1, c .before .if2 .taken)
-
-plan-month-requires : tie.Need-plan-month-requires
-plan-month-requires c κs =
-    let s = c .before .before .before .before .before in
+plan-any-requires : tie.Need-plan-any-requires
+plan-any-requires c κs =
+    let s = c .before .before .before .before in
     (law.startable (s .pre .0), s .pre .1, s .pre .0 .few)
 
 pub plan-into-spec : {M : Type 1} → statement M
 plan-into-spec =
     tie.close
-    (tie.spec plan-day-requires (λ c. search needs) (λ c. search needs) plan-week-requires (λ c. search needs)
-    (λ c. search needs) plan-month-requires (λ c. search needs) (λ c. search needs))
+    (tie.spec plan-day-requires (λ c. search needs) (λ c. search needs) plan-any-requires (λ c. search needs)
+    (λ c. search needs))

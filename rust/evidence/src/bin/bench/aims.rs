@@ -2,9 +2,11 @@
 
 use crate::contenders::{Call, CALLS};
 use crate::measured::{Line, Measure, Measured};
-use evidence::families::Family;
+use evidence::families::{Family, FRAMES};
 use evidence::reference::limits::MAX_FRAMES;
 use std::fmt::Write;
+
+const HALF_WEEK: usize = FRAMES[1];
 
 /// An aim: a figure of some rows and calls that is at most a limit.
 struct Aim {
@@ -15,19 +17,19 @@ struct Aim {
 
 const AIMS: [Aim; 7] = [
     Aim {
-        what: "growth from 336 to 672 frames at most 2.6 in instructions",
+        what: "growth from half a week to a week at most 2.6 in instructions",
         limit: 2.6,
         figure: |_, _, measure| measure.growth,
     },
     Aim {
-        what: "plan at most 1.3 of the source's Algorithm 2 at 336 frames and more",
+        what: "plan at most 1.3 of the source's Algorithm 2 at half a week and more",
         limit: 1.3,
-        figure: |line, call, measure| (336 <= line.row.frames && call == Call::Plan).then_some(measure.source),
+        figure: |line, call, measure| (HALF_WEEK <= line.row.frames && call == Call::Plan).then_some(measure.source),
     },
     Aim {
-        what: "needed capacity at most 1.3 of the source's Algorithm 1 at 336 frames and more",
+        what: "needed capacity at most 1.3 of the source's Algorithm 1 at half a week and more",
         limit: 1.3,
-        figure: |line, call, measure| (336 <= line.row.frames && call == Call::Needed).then_some(measure.source),
+        figure: |line, call, measure| (HALF_WEEK <= line.row.frames && call == Call::Needed).then_some(measure.source),
     },
     Aim {
         what: "daily sun no slower than the build beside",
@@ -35,13 +37,13 @@ const AIMS: [Aim; 7] = [
         figure: |line, _, measure| measure.beside.filter(|_| line.row.family == Family::DailySun),
     },
     Aim {
-        what: "at most 1.3 of the build beside at 672 frames",
+        what: "at most 1.3 of the build beside at a week",
         limit: 1.3,
-        figure: |line, _, measure| measure.beside.filter(|_| line.row.frames == 672),
+        figure: |line, _, measure| measure.beside.filter(|_| line.row.frames == MAX_FRAMES),
     },
     Aim {
-        what: "slowest request of the most frames at most 500 us",
-        limit: 500.0,
+        what: "slowest request of the most frames at most 100 us",
+        limit: 100.0,
         figure: |line, _, measure| (line.row.frames == MAX_FRAMES).then_some(measure.micros),
     },
     Aim {

@@ -3,11 +3,12 @@
 use crate::beside::Beside;
 use crate::contenders::{library, other, Call, CALLS};
 use crate::rows::{rows, Row};
+use evidence::families::FRAMES;
 use std::fmt::Write;
 use std::process::{Command, Stdio};
 
-/// The numbers of frames that are counted: the growth is from the first to the second.
-const FRAMES: [usize; 2] = [336, 672];
+/// The numbers of frames that are counted, half a week and a week: the growth is from the first to the second.
+const COUNTED: [usize; 2] = [FRAMES[1], FRAMES[2]];
 
 /// Has the C library clear a list by stores, not by one repeated instruction, which callgrind counts once for each byte.
 const LISTS_BY_WORDS: &str = "glibc.cpu.x86_rep_stosb_threshold=1000000";
@@ -21,7 +22,7 @@ pub fn play(call: Call, beside: Option<&Beside>) {
         Some(beside) => other(beside, call),
         None => library(call),
     };
-    for row in rows(&FRAMES) {
+    for row in rows(&COUNTED) {
         row.requests().iter().for_each(|request| run(request));
     }
 }
@@ -68,8 +69,8 @@ fn means(call: Call, beside: Option<&Beside>) -> Result<Vec<u64>, String> {
         let count = row.requests().len();
         rest.by_ref().take(count).sum::<u64>() / count as u64
     };
-    let means = rows(&FRAMES).iter().map(&mut mean).collect();
-    let expected: usize = rows(&FRAMES).iter().map(|row| row.requests().len()).sum();
+    let means = rows(&COUNTED).iter().map(&mut mean).collect();
+    let expected: usize = rows(&COUNTED).iter().map(|row| row.requests().len()).sum();
     if each.len() != expected {
         return Err(format!("callgrind counted {} calls, not {expected}", each.len()));
     }
@@ -87,13 +88,13 @@ pub struct Counts {
 pub fn count(beside: Option<&Beside>) -> Result<Counts, String> {
     let all = |beside| -> Result<Vec<Vec<u64>>, String> { CALLS.iter().map(|&call| means(call, beside)).collect() };
     Ok(Counts {
-        rows: rows(&FRAMES),
+        rows: rows(&COUNTED),
         library: all(None)?,
         beside: beside.map(|beside| all(Some(beside))).transpose()?,
     })
 }
 
-/// How a row's counts of 336 and 672 frames grow.
+/// How a row's counts of half a week and a week grow.
 fn growth(pair: &[u64]) -> f64 {
     pair[1] as f64 / pair[0] as f64
 }
@@ -102,7 +103,7 @@ impl Counts {
     /// The growth to a row, if it has the larger number of frames.
     pub fn growth(&self, call: Call, row: &Row) -> Option<f64> {
         let at = self.rows.iter().position(|other| other == row)?;
-        (row.frames == FRAMES[1]).then(|| growth(&self.library[call as usize][at - 1..=at]))
+        (row.frames == COUNTED[1]).then(|| growth(&self.library[call as usize][at - 1..=at]))
     }
 
     /// Every count.
@@ -128,7 +129,7 @@ fn cells(pair: &[u64]) -> String {
 
 /// The head of the table of counts.
 fn header(beside: Option<&Beside>) -> String {
-    let columns = |name: &str| format!(" {name}{} | {name}{} | {name}growth |", FRAMES[0], FRAMES[1]);
+    let columns = |name: &str| format!(" {name}{} | {name}{} | {name}growth |", COUNTED[0], COUNTED[1]);
     let beside = beside.map(|beside| columns(&format!("{} ", beside.name())));
     let numbers = "---|".repeat(if beside.is_some() { 8 } else { 5 });
     format!(

@@ -3,8 +3,9 @@
 use crate::beside::Beside;
 use crate::contenders::{library, other, source, twin, Call, Run, CALLS};
 use crate::instructions::Counts;
-use crate::rows::{rows, Request, Row, FRAMES};
+use crate::rows::{rows, Request, Row};
 use crate::time::{lower, ROUNDS};
+use evidence::families::FRAMES;
 
 /// What was measured of a call in a row.
 pub struct Measure {

@@ -4,7 +4,7 @@ use crate::rows::MOST;
 use crate::time::{alone, black_box};
 use energy::{Energy, Figures};
 use evidence::algorithms::linear;
-use evidence::families::{request, Family, Size};
+use evidence::families::{request, Family, Size, FRAMES};
 use evidence::random::{seed, Random};
 use evidence::reference::curves::grade;
 use evidence::reference::limits::{MAX_FILE_BYTES, MAX_FRAMES};
@@ -71,7 +71,7 @@ fn measure_shift(all: &[Box<dyn Energy>]) {
 /// The plan's worth by house curve 0 against the optimum of a linear program.
 fn measure_linear(all: &[Box<dyn Energy>]) {
     println!("\n## House curve 0 as a linear program\n");
-    for frames in [96, 336, 672] {
+    for frames in FRAMES {
         let (figures, harvest) = daily_sun(Size::Small, frames);
         let begin = Instant::now();
         let optimum = match linear::optimum(figures, &harvest) {

@@ -3,10 +3,6 @@
 use energy::Figures;
 use evidence::families::{full, request, Family, Size, FAMILIES, FULL, SIZES};
 use evidence::random::{seed, Random};
-use evidence::reference::limits::MAX_FRAMES;
-
-/// The numbers of frames measured: a day, half a week, a week, half a month, a month of quarter hours.
-pub const FRAMES: [usize; 5] = [96, 336, 672, MAX_FRAMES / 2, MAX_FRAMES];
 
 /// The largest harvest of the measured requests.
 pub const MOST: u32 = 1_000;

@@ -3,10 +3,10 @@
 use crate::contenders::{Call, CALLS};
 use crate::guess::guess;
 use crate::measured::{Line, Measure, Measured};
-use evidence::reference::limits::MAX_FRAMES;
+use evidence::families::FRAMES;
 
 /// The numbers of frames of the summary.
-const SUMMARY: [usize; 2] = [672, MAX_FRAMES];
+const SUMMARY: [usize; 2] = [FRAMES[0], FRAMES[2]];
 
 /// A figure with two digits behind the point, a small one with three, or an empty cell.
 fn cell(figure: Option<f64>) -> String {
@@ -45,7 +45,7 @@ impl Measured {
         format!("| {} | {} |{cells}", line.row.name(), line.row.frames)
     }
 
-    /// The summary: a week and a month of quarter hours.
+    /// The summary: a day and a week of quarter hours.
     pub fn summary(&self) -> String {
         let lines = self.lines.iter().filter(|line| SUMMARY.contains(&line.row.frames));
         let lines: String = lines.map(|line| self.line(line) + "\n").collect();
