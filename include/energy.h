@@ -2,10 +2,11 @@
  *
  * A request has a capacity, a start charge, an end charge and a harvest for each of K frames, in whole watt-hours.
  * After a frame with harvest h and budget e the charge is the smaller of the capacity and (charge before + h - e);
- * what exceeds the capacity is lost. A reward table is good if it never falls and is concave: each step up is no greater
- * than the one before it. Budgets, one for each frame, are feasible if none is above the charge before it plus its
- * harvest and the last charge is at least the end charge. A plan is feasible, best for every good reward table at once,
- * and of such budgets the one that takes more at the first difference.
+ * what exceeds the capacity is lost, never more than h. So after every frame start plus the harvests so far is the
+ * charge plus the budgets and the losses so far. A reward table is good if it never falls and is concave: each step up
+ * is no greater than the one before it. Budgets, one for each frame, are feasible if none is above the charge before it
+ * plus its harvest and the last charge is at least the end charge. A plan is feasible, best for every good reward table
+ * at once, and of such budgets the one that takes more at the first difference.
  *
  * Every struct answered begins with a refusal: its `number`, 0 if the call was accepted, and its `p`, 0 unless named:
  *
@@ -54,8 +55,8 @@ extern "C" {
 #define ENERGY_MAX_CAPACITY 1000000000
 #define ENERGY_MAX_HARVEST 400000
 
-/* Room for any listing: a line of at most 49 bytes, one of at most 26 for each frame, and one of at most 42. */
-#define ENERGY_LISTING_BYTES (49 + 26 * ENERGY_MAX_FRAMES + 42)
+/* Room for any listing: a line of at most 49 bytes, one of at most 33 for each frame, and one of at most 42. */
+#define ENERGY_LISTING_BYTES (49 + 33 * ENERGY_MAX_FRAMES + 42)
 
 /* The tracer's verdicts. */
 #define ENERGY_FEASIBLE 0
@@ -181,12 +182,13 @@ struct EnergyPlanAnswer energy_plan(struct EnergyFigures figures,
 struct EnergyNeededAnswer energy_needed(struct EnergyFigures figures,
                                         const uint32_t *harvest, size_t harvest_length);
 
-/* Writes the charge after each frame under any budgets into `charges`, below zero included, and judges the budgets.
- * Refuses 1, 2, 7 (either list), 3, 4, 5, 6. */
+/* Writes the charge after each frame under any budgets into `charges`, below zero included, and what each frame loses
+ * into `losses`, and judges the budgets. Refuses 1, 2, 7 (budgets, charges or losses), 3, 4, 5, 6. */
 struct EnergyTraceAnswer energy_trace(struct EnergyFigures figures,
                                       const uint32_t *harvest, size_t harvest_length,
                                       const uint32_t *budgets, size_t budgets_length,
-                                      int64_t *charges, size_t charges_length);
+                                      int64_t *charges, size_t charges_length,
+                                      uint32_t *losses, size_t losses_length);
 
 /* Grades any budgets by the three house curves. Refuses 1, 2. */
 struct EnergyGradeAnswer energy_grade(const uint32_t *budgets, size_t budgets_length);
@@ -222,8 +224,8 @@ struct EnergyWriteAnswer energy_write(struct EnergyFigures figures,
                                       uint8_t *file, size_t file_length);
 
 /* Writes what the plan program prints for a word file into `text`: the plan's lines, or `refused`, the number and p.
- * Returns the number of bytes written: as much of the text as there is room for, and any listing has room in
- * ENERGY_LISTING_BYTES. The surplus of `text` keeps its values. */
+ * A frame's line has its number, budget, charge and loss. Returns the number of bytes written: as much of the text as
+ * there is room for, and any listing has room in ENERGY_LISTING_BYTES. The surplus of `text` keeps its values. */
 size_t energy_listing(const uint8_t *file, size_t file_length, uint8_t *text, size_t text_length);
 
 #ifdef __cplusplus

@@ -38,18 +38,34 @@ static void planning(void)
     refusal("\nneeded", needed.refusal);
     printf(" %" PRIu64, needed.capacity);
 
-    struct EnergyTraceAnswer trace;
-    int64_t charges[6];
-    const uint32_t supplied[6] = {4, 4, 4, 4, 2, 2};
-    trace = energy_trace((struct EnergyFigures){22, 2, 2}, harvest, 6, supplied, 6, charges, 6);
-    refusal("\ntrace", trace.refusal);
-    printf(" %" PRIu32 " %" PRIu32, trace.verdict, trace.frame);
-    for (int i = 0; i < 6; i++)
-        printf(" %" PRId64, charges[i]);
-
     struct EnergyGradeAnswer grade = energy_grade((const uint32_t[]){4, 3, 3, 2, 4, 4}, 6);
     refusal("\ngrade", grade.refusal);
     printf(" %" PRIu64 " %" PRIu64 " %" PRIu64 "\n", grade.sums.curve0, grade.sums.curve1, grade.sums.curve2);
+}
+
+/* Traces supplied budgets of document 01's request with a capacity, and losses in a list of so many entries. */
+static void trace(uint32_t capacity, const uint32_t *budgets, size_t losses_length)
+{
+    int64_t charges[6] = {9, 9, 9, 9, 9, 9};
+    uint32_t losses[6] = {9, 9, 9, 9, 9, 9};
+    struct EnergyTraceAnswer traced = energy_trace((struct EnergyFigures){capacity, 2, 2}, harvest, 6, budgets, 6,
+                                                   charges, 6, losses, losses_length);
+    refusal("trace", traced.refusal);
+    printf(" %" PRIu32 " %" PRIu32 " charges", traced.verdict, traced.frame);
+    for (int i = 0; i < 6; i++)
+        printf(" %" PRId64, charges[i]);
+    printf(" losses");
+    for (int i = 0; i < 6; i++)
+        printf(" %" PRIu32, losses[i]);
+    printf("\n");
+}
+
+static void tracing(void)
+{
+    const uint32_t supplied[6] = {4, 4, 4, 4, 2, 2}, nothing[6] = {0};
+    trace(22, supplied, 6);
+    trace(5, nothing, 6);
+    trace(5, nothing, 5);
 }
 
 static void shift(void)
@@ -98,6 +114,7 @@ static void files(void)
 int main(void)
 {
     planning();
+    tracing();
     shift();
     files();
     return 0;

@@ -40,29 +40,29 @@ plan() { $bin/plan; }
 
 # the listing of document 01, and other plans
 listing='frames 6 capacity 5 needed 6
-1 4 4
-2 3 5
-3 3 2
-4 2 0
-5 4 1
-6 4 2
+1 4 4 0
+2 3 5 0
+3 3 2 0
+4 2 0 0
+5 4 1 0
+6 4 2 0
 worth 320 480 100'
 file 5 2 2 6 4 0 0 5 5 >"$folder/listing"
 check 'listing' "$listing" "$(plan <"$folder/listing")"
 check 'listing, capacity 6' 'frames 6 capacity 6 needed 6
-1 3 5
-2 3 6
-3 3 3
-4 3 0
-5 4 1
-6 4 2
+1 3 5 0
+2 3 6 0
+3 3 3 0
+4 3 0 0
+5 4 1 0
+6 4 2 0
 worth 320 480 100' "$(file 6 2 2 6 4 0 0 5 5 | plan)"
 check 'harvest 1, 2' 'frames 2 capacity 9 needed 0
-1 1 0
-2 2 0
+1 1 0 0
+2 2 0 0
 worth 48 72 15' "$(file 9 0 0 1 2 | plan)"
 check 'capacity 0' 'frames 1 capacity 0 needed 0
-1 5 0
+1 5 0 0
 worth 80 120 25' "$(file 0 0 0 5 | plan)"
 
 # files that the plan program refuses

@@ -13,14 +13,17 @@ enum { K = ENERGY_MAX_FRAMES, STACK = 1 << 20, UNTOUCHED = 0xA5 };
 
 static const struct EnergyFigures figures = {.capacity = 9000, .start = 500, .end = 700};
 static struct EnergyShift shift;
-static uint32_t harvest[K], budgets[K];
+static uint32_t harvest[K], budgets[K], losses[K];
 static int64_t charges[K];
 static uint8_t file[ENERGY_MAX_FILE_BYTES], text[ENERGY_LISTING_BYTES];
 
 /* Each call tells the number of its refusal, which is 0: what a refused call takes says nothing. */
 static uint32_t plan(void) { return energy_plan(figures, harvest, K, budgets, K).refusal.number; }
 static uint32_t needed(void) { return energy_needed(figures, harvest, K).refusal.number; }
-static uint32_t trace(void) { return energy_trace(figures, harvest, K, budgets, K, charges, K).refusal.number; }
+static uint32_t trace(void)
+{
+    return energy_trace(figures, harvest, K, budgets, K, charges, K, losses, K).refusal.number;
+}
 static uint32_t grade(void) { return energy_grade(budgets, K).refusal.number; }
 static uint32_t start(void)
 {

@@ -14,8 +14,9 @@ _▸_ a b = (a, b)
 pub worked-cases : AllHold cases
 unfolding decimal lineOf planOf openPlan neededOf framesOf plan budget largest reserve requirement peak
 worked-cases =
-    refl ▸ (refl, refl) ▸ refl ▸ (refl, refl) ▸ (refl, refl, refl) ▸ (refl, refl) ▸ (refl, refl)
+    refl ▸ (refl, refl) ▸ (refl, refl) ▸ (refl, refl) ▸ (refl, refl, refl) ▸ (refl, refl) ▸ (refl, refl)
     ▸ (refl, refl) ▸ (refl, refl, refl) ▸ (refl, refl) ▸ (refl, refl) ▸ (refl, refl) ▸ (refl, refl)
-    ▸ refl ▸ refl ▸ (refl, refl) ▸ (refl, refl) ▸ (refl, refl, refl) ▸ refl ▸ (refl, refl, refl)
+    ▸ refl ▸ refl ▸ (refl, refl) ▸ (refl, refl, refl) ▸ (refl, refl, refl) ▸ (refl, refl, refl) ▸ refl
+    ▸ (refl, refl, refl)
     ▸ (refl, refl) ▸ refl ▸ refl ▸ refl ▸ refl ▸ (refl, refl, refl) ▸ refl ▸ (refl, refl) ▸ (refl, refl)
     ▸ tt

@@ -1,5 +1,5 @@
--- The cases that document 01 marks with *, in its order, then its limits, of frames and bytes as document 02 has them;
--- and what each of them states of the definitions.
+-- The cases that document 01 marks with *, in its order, with what document 02 adds to them, then its limits, of frames
+-- and bytes as document 02 has them; and what each of them states of the definitions.
 use mathlib.Core.Path.{_≡_}
 use mathlib.Core.List.{List, [], _∷_, _++_}
 use lib.IntN.{ℤ, pos, negsuc}
@@ -9,8 +9,8 @@ use lib.ListN.{length, replicate}
 use Rattle.model.specs.declared.Refusal.{Refusal}
 use Rattle.model.specs.Request.{Request, request, figures, frameCount}
 use Rattle.model.specs.Refusals.{refusal, none, planRefusal, neededRefusal}
-use Rattle.model.specs.Charge.{charges}
-use Rattle.model.specs.Trace.{trace, Verdict, below-zero, verdict}
+use Rattle.model.specs.Charge.{charges, losses}
+use Rattle.model.specs.Trace.{trace, traceLosses, Verdict, below-zero, is-feasible, verdict}
 use Rattle.model.specs.Curves.{houseCurve, grade}
 use Rattle.model.specs.Plan.{planOf, neededOf}
 use Rattle.shift.specs.declared.Shift.{Shift}
@@ -23,16 +23,16 @@ use Rattle.text.specs.Ascii.{ascii}
 pub data Case : Type 0 where
   -- a request and its plan
   plans : Request → List ℕ → Case
-  -- a request and the charges after each frame of its plan
-  charged : Request → List ℕ → Case
+  -- a request, and for each frame of its plan the charge after it and its loss
+  charged : Request → List ℕ → List ℕ → Case
   -- a request and its needed capacity
   needs : Request → ℕ → Case
   -- a request and the refusal of its planning
   refused : Request → Refusal → Case
   -- budgets and their worth by the three house curves
   worths : List ℕ → ℕ → ℕ → ℕ → Case
-  -- a request, supplied budgets, their charges and the verdict
-  traces : Request → List ℕ → List ℤ → Verdict → Case
+  -- a request, supplied budgets, their charges, their losses and the verdict
+  traces : Request → List ℕ → List ℤ → List ℕ → Verdict → Case
   -- a shift, a recorded harvest and use, the charge that is left and what is lost
   records : Shift → ℕ → ℕ → ℕ → ℕ → Case
   -- a shift, a harvest and a use, and the refusal of their recording
@@ -48,11 +48,11 @@ pub data Case : Type 0 where
 
 abbrev pub Holds : Case → Type 0
 Holds (plans r bs) = (planRefusal r (frameCount r) ≡ none) × (planOf r ≡ bs)
-Holds (charged r xs) = charges r (planOf r) ≡ xs
+Holds (charged r xs ls) = (charges r (planOf r) ≡ xs) × (losses r (planOf r) ≡ ls)
 Holds (needs r c) = (neededRefusal r ≡ none) × (neededOf r ≡ c)
 Holds (refused r f) = planRefusal r (frameCount r) ≡ f
 Holds (worths bs x y z) = (grade (houseCurve 0) bs ≡ x) × (grade (houseCurve 1) bs ≡ y) × (grade (houseCurve 2) bs ≡ z)
-Holds (traces r bs zs v) = (trace r bs ≡ zs) × (verdict r bs ≡ v)
+Holds (traces r bs zs ls v) = (trace r bs ≡ zs) × (traceLosses r bs ≡ ls) × (verdict r bs ≡ v)
 Holds (records s h u x l) =
     (recordRefusal s h u ≡ none)
     × (recordedBy s h u .now .charge ≡ x)
@@ -86,9 +86,10 @@ evenly k = asked 9 0 0 (replicate k 1)
 
 abbrev pub cases : List Case
 cases =
-    prints (listing 5) "frames 6 capacity 5 needed 6\n1 4 4\n2 3 5\n3 3 2\n4 2 0\n5 4 1\n6 4 2\nworth 320 480 100\n"
+    prints (listing 5)
+    "frames 6 capacity 5 needed 6\n1 4 4 0\n2 3 5 0\n3 3 2 0\n4 2 0 0\n5 4 1 0\n6 4 2 0\nworth 320 480 100\n"
     ∷ plans (listing 5) (4 ∷ 3 ∷ 3 ∷ 2 ∷ 4 ∷ 4 ∷ [])
-    ∷ charged (listing 5) (4 ∷ 5 ∷ 2 ∷ 0 ∷ 1 ∷ 2 ∷ [])
+    ∷ charged (listing 5) (4 ∷ 5 ∷ 2 ∷ 0 ∷ 1 ∷ 2 ∷ []) (replicate 6 0)
     ∷ needs (listing 5) 6
     ∷ worths (4 ∷ 3 ∷ 3 ∷ 2 ∷ 4 ∷ 4 ∷ []) 320 480 100
     ∷ plans (listing 6) (3 ∷ 3 ∷ 3 ∷ 3 ∷ 4 ∷ 4 ∷ [])
@@ -104,7 +105,8 @@ cases =
     ∷ prints (asked 8 3 8 (4 ∷ [])) "refused 9 1\n"
     ∷ plans (asked 0 0 0 (5 ∷ [])) (5 ∷ [])
     ∷ traces (listing 22) (4 ∷ 4 ∷ 4 ∷ 4 ∷ 2 ∷ 2 ∷ []) (pos 4 ∷ pos 4 ∷ pos 0 ∷ negsuc 3 ∷ negsuc 0 ∷ pos 2 ∷ [])
-    (below-zero 4)
+    (replicate 6 0) (below-zero 4)
+    ∷ traces (listing 5) (replicate 6 0) (replicate 6 (pos 5)) (3 ∷ 4 ∷ 0 ∷ 0 ∷ 5 ∷ 5 ∷ []) is-feasible
     ∷ records four 3 7 0 0
     ∷ unrecorded four 3 8 (refusal 21 1)
     ∷ records four 3 1 5 1

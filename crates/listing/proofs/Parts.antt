@@ -15,28 +15,30 @@ use Rattle.model.specs.Limits.{maxFrames, maxCapacity}
 use Rattle.model.specs.Request.{Request, frameCount}
 use Rattle.model.specs.Refusals as R
 use Rattle.model.specs.Refusals.{isNone, planRefusal, neededRefusal}
-use Rattle.model.specs.Charge.{charges}
-use Rattle.model.specs.Trace.{trace}
+use Rattle.model.specs.Charge.{charges, losses}
+use Rattle.model.specs.Trace.{trace, traceLosses}
 use Rattle.model.specs.Plan.{planOf, neededOf}
 use Rattle.model.proofs.Choice.{pick-by}
 use Rattle.model.proofs.First.{first-none, none-first, both-none}
 use Rattle.model.proofs.Request.{plan-is}
-use Rattle.model.proofs.Trace.{trace-charges, feasible-length}
+use Rattle.model.proofs.Trace.{trace-charges, trace-losses, feasible-length}
 use Rattle.request.proofs.Within.{plan-within}
 use Rattle.grader.specs.Says.{sumsOf}
 use Rattle.grader.specs.declared.Sums.{Sums}
 use Rattle.text.specs.Line.{lineOf, linesOf}
 use Rattle.printed.specs.Text.{firstPattern, framePattern, worthPattern, refusedLine, frameRows, showing, shownOf}
 use Rattle.printed.specs.Text.{requestText}
-use Rattle.printed.proofs.Means.{charges-length}
+use Rattle.printed.proofs.Means.{ends-paired}
 use Rattle.printed.proofs.FrameLines.{amounts, amounts-pos, pos-nonNeg}
 
 -- what holds of a request that planning does not refuse
 pub record Accepted (q : Request) : Type 0 where
   pub few : frameCount q ≤ maxFrames
+  pub start-fits : q .figures .start ≤ q .figures .capacity
   pub needed : isNone (neededRefusal q) ≡ true
   pub budgets : length (planOf q) ≡ frameCount q
   pub charges : trace q (planOf q) ≡ map pos (charges q (planOf q))
+  pub losses : traceLosses q (planOf q) ≡ losses q (planOf q)
 
 pub accepted : (q : Request) (n : ℕ) → isNone (planRefusal q n) ≡ true → Accepted q
 accepted q n e =
@@ -51,15 +53,17 @@ accepted q n e =
     let d = low (q .figures .end) (omega (arith, w .figures .capacity-small, w .figures .end-fits)) in
     record {
       few = w .frames .few;
+      start-fits = w .figures .start-fits;
       needed = ap isNone (none-first (R.neededRefusals q) (a .0 .0, (a .0 .1 .0, (s, (d, (b .0 .1 .1 .1 .0, b .1))))));
       budgets = feasible-length q (planOf q) f;
       charges = trace-charges q (planOf q) f;
+      losses = trace-losses q (planOf q) f;
     }
   where
     low : (n : ℕ) → n ≤ maxCapacity → isNone (R.overCapacityLimit n) ≡ true
     low n l = rw (le-ltb maxCapacity n l)
 
--- its parts: the budgets bs and the charges ys after them
+-- its parts: the budgets bs, the charges ys after them and the losses ls
 module _ (q : Request) (w : Accepted q) (bs : List ℕ) (b : bs ≡ planOf q) where
   pub budgets-long : length bs ≡ frameCount q
   budgets-long = ap length b ∙ w .budgets
@@ -67,16 +71,21 @@ module _ (q : Request) (w : Accepted q) (bs : List ℕ) (b : bs ≡ planOf q) wh
   pub budgets-few : length bs ≤ maxFrames
   budgets-few = rw budgets-long (w .few)
 
-  module _ (ys : List ℤ) (y : ys ≡ trace q bs) where
+  module _ (ys : List ℤ) (ls : List ℕ) (traced : (ys ≡ trace q bs) × (ls ≡ traceLosses q bs)) where
     charges-are : ys ≡ map pos (charges q (planOf q))
-    charges-are = y ∙ (ap (trace q) b ∙ w .charges)
+    charges-are = traced .0 ∙ (ap (trace q) b ∙ w .charges)
+
+    losses-are : ls ≡ losses q (planOf q)
+    losses-are = traced .1 ∙ (ap (traceLosses q) b ∙ w .losses)
 
     pub charges-long : length ys ≡ length bs
     charges-long =
         ap length charges-are
         ∙ (length-map (charges q (planOf q)) pos
-        ∙ (charges-length (q .figures .capacity) (q .figures .start) (q .harvest) (planOf q) (w .budgets)
-        ∙ sym (ap length b)))
+        ∙ (ends-paired q (planOf q) (w .budgets) .0 ∙ sym (ap length b)))
+
+    pub losses-long : length ls ≡ length bs
+    losses-long = ap length losses-are ∙ (ends-paired q (planOf q) (w .budgets) .1 ∙ sym (ap length b))
 
     -- none of the charges is below zero
     pub charges-shown : (i : ℕ) → T (nonNeg (getD ys i (pos 0)))
@@ -85,12 +94,12 @@ module _ (q : Request) (w : Accepted q) (bs : List ℕ) (b : bs ≡ planOf q) wh
     -- the lines of the needed capacity n, of these parts and of their sums s
     pub shown-is : (n : ℕ) (s : Sums) → n ≡ neededOf q → s ≡ sumsOf bs →
         lineOf firstPattern (frameCount q ∷ q .figures .capacity ∷ n ∷ [])
-        ++ (linesOf framePattern (frameRows 1 bs (amounts ys))
+        ++ (linesOf framePattern (frameRows 1 bs (amounts ys) ls)
         ++ lineOf worthPattern (s .curve0 ∷ s .curve1 ∷ s .curve2 ∷ []))
         ≡ showing (shownOf q (planOf q))
     shown-is n s m d =
         let e : amounts ys ≡ charges q (planOf q) = ap amounts charges-are ∙ amounts-pos (charges q (planOf q)) in
-        rw (e, d, m, b) refl
+        rw (e, losses-are, d, m, b) refl
 
 -- the front of a list with room for every frame
 pub part-long : {A : Type 0} (k : ℕ) (v : A) → k ≤ maxFrames → length (take (k - 0) (replicate maxFrames v)) ≡ k

@@ -23,23 +23,26 @@ use tracer::fill;
 use wordfile::ReadAnswer;
 use wordfile::read;
 
-// The listing of a request that is not refused, with lists lent for its plan and the charges after its frames.
+// The listing of a request that is not refused, with lists lent for its plan, the charges after its frames and their
+// losses.
 fn list_plan(
     figures: Figures,
     harvest: &[u32],
     budgets: &mut [u32],
     charges: &mut [i64],
+    losses: &mut [u32],
     out: &mut [u8],
 ) -> usize
     requires { ⌜ isNone (planRefusal (request figures (now harvest)) (length (now budgets))) ≡ true ⌝ }
     requires { ⌜ length (now charges) ≡ length (now harvest) ⌝ }
+    requires { ⌜ length (now losses) ≡ length (now harvest) ⌝ }
     ensures { λ r. ⌜ Wrote (showing
         (shownOf (request figures (now (harvest .entry))) (planOf (request figures (now (harvest .entry))))))
         (now (out .entry)) (now (out .exit)) r ⌝ }
 {
     let needed = needed_capacity(figures, harvest);
     write_plan(figures, harvest, budgets);
-    fill(figures, harvest, budgets, charges);
+    fill(figures, harvest, budgets, charges, losses);
     let sums = sums_of(budgets);
     let a = put_first(
         harvest.len() as u64,
@@ -48,7 +51,7 @@ fn list_plan(
         out,
         0,
     );
-    let b = put_frames(budgets, charges, out, a);
+    let b = put_frames(budgets, charges, losses, out, a);
     put_worth(sums.curve0, sums.curve1, sums.curve2, out, b)
 }
 
@@ -64,11 +67,13 @@ fn list_request(figures: Figures, harvest: &[u32], out: &mut [u8]) -> usize
     }
     let mut budgets = [0u32; MAX_FRAMES];
     let mut charges = [0i64; MAX_FRAMES];
+    let mut losses = [0u32; MAX_FRAMES];
     list_plan(
         figures,
         harvest,
         &mut budgets[0..k],
         &mut charges[0..k],
+        &mut losses[0..k],
         out,
     )
 }

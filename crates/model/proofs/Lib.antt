@@ -6,6 +6,7 @@ pub mod Integers
 pub mod Tables
 pub mod Curves
 pub mod Trace
+pub mod Losses
 pub mod Machine
 pub mod Feasibility
 pub mod Reserve

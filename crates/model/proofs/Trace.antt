@@ -1,9 +1,9 @@
--- The tracer's verdict is Definition 1, the frame it names is the earliest below zero, and the traced charges of a
--- feasible list are the charges of the frame rule.
+-- The tracer's verdict is Definition 1, the frame it names is the earliest below zero, and the traced charges and
+-- losses of a feasible list are those of the frame rule.
 use mathlib.Core.Path.{_≡_, refl, ap, sym, _∙_}
 use mathlib.Core.Logic.{_↔_}
 use mathlib.Core.Bool.{Bool, true, false, _&&_, not, false≢true}
-use mathlib.Core.List.{List, [], _∷_, map}
+use mathlib.Core.List.{List, [], _∷_, map, map-map}
 use Prim.Native.Nat.{ℕ, zero, suc, _+_, _-_, _≤_, _<_, min}
 use native.Mathlib.Omega.{arith}
 use lib.ListN.{length, getD}
@@ -13,9 +13,10 @@ use lib.Dec.{leb}
 use borrow.Author.Tests.{leb-true, leb-false, le-leb}
 use Rattle.model.specs.Choice.{pick}
 use Rattle.model.specs.Request.{Request, frameCount}
-use Rattle.model.specs.Charge.{atHand, frameEnd, feasibleFrom, feasible, chargesFrom, charges}
-use Rattle.model.specs.Trace.{minZ, excess, tracedEnd, traceFrom, trace, belowFrom, lastFrom, below-zero}
-use Rattle.model.specs.Trace.{end-too-low, is-feasible, verdict, EarliestBelow}
+use Rattle.model.specs.Charge.{FrameEnd, atHand, frameEnd, feasibleFrom, feasible, endsFrom, charges, losses}
+use Rattle.model.specs.Trace.{minZ, excess, tracedEnd, tracedFrom, traceFrom, trace, traceLosses, belowFrom}
+use Rattle.model.specs.Trace.{lastFrom, below-zero, end-too-low, is-feasible, verdict, EarliestBelow}
+use Rattle.model.specs.declared.frame.TracedEnd.{TracedEnd}
 use Rattle.model.proofs.Integers as int
 use Rattle.model.proofs.Tests.{both}
 
@@ -25,7 +26,7 @@ min-by a b true e = let l = leb-true a b e in ap pos (omega arith)
 min-by a b false e = let l = leb-false a b e in ap pos (omega arith)
 
 -- the smaller whole number of two natural numbers is the smaller natural number
-min-pos : (a b : ℕ) → minZ (pos a) (pos b) ≡ pos (min a b)
+pub min-pos : (a b : ℕ) → minZ (pos a) (pos b) ≡ pos (min a b)
 min-pos a b = min-by a b (leb a b) refl
 
 -- a budget within what is at hand leaves the charge of the frame rule
@@ -102,20 +103,42 @@ verdict-feasible r bs l =
     let f = feasible-is (r .figures .capacity) (r .figures .end) (r .figures .start) 0 (r .harvest) bs l in
     (λ e. f ∙ v .0 e, λ e. v .1 (sym f ∙ e))
 
--- the charges of budgets feasible from charge x
-trace-from : (c e x : ℕ) (hs bs : List ℕ) → feasibleFrom c e x hs bs ≡ true →
-    traceFrom c (pos x) hs bs ≡ map pos (chargesFrom c x hs bs)
-trace-from c e x [] bs f = refl
-trace-from c e x (h ∷ hs) [] f = refl
-trace-from c e x (h ∷ hs) (b ∷ bs) f =
-    let y = frameEnd c x h b .charge in
-    let p = both (leb b (atHand c x h)) (feasibleFrom c e y hs bs) f in
-    ap (λ z. z ∷ traceFrom c z hs bs) (after-within c x h b (leb-true b (atHand c x h) (p .0)))
-    ∙ ap (λ zs. pos y ∷ zs) (trace-from c e y hs bs (p .1))
+-- what a frame ends with by the frame rule, as the tracer has it
+abbrev inTrace : FrameEnd → TracedEnd
+inTrace e = record { charge = pos (e .charge); lost = e .lost }
+
+-- the traced frames of budgets feasible from charge x end as the frame rule has it
+traced-from : (c e x : ℕ) (hs bs : List ℕ) → feasibleFrom c e x hs bs ≡ true →
+    tracedFrom c (pos x) hs bs ≡ map inTrace (endsFrom c x hs bs)
+traced-from c e x [] bs f = refl
+traced-from c e x (h ∷ hs) [] f = refl
+traced-from c e x (h ∷ hs) (b ∷ bs) f =
+    let a = frameEnd c x h b in
+    let p = both (leb b (atHand c x h)) (feasibleFrom c e (a .charge) hs bs) f in
+    ap (λ (z : TracedEnd). z ∷ tracedFrom c (z .charge) hs bs)
+    (traced-within c x h b (leb-true b (atHand c x h) (p .0)))
+    ∙ ap (λ (zs : List TracedEnd). inTrace a ∷ zs) (traced-from c e (a .charge) hs bs (p .1))
+
+-- what each frame of a request ends with
+abbrev ends : Request → List ℕ → List FrameEnd
+ends r bs = endsFrom (r .figures .capacity) (r .figures .start) (r .harvest) bs
+
+traced-ends : (r : Request) (bs : List ℕ) → feasible r bs ≡ true →
+    tracedFrom (r .figures .capacity) (pos (r .figures .start)) (r .harvest) bs ≡ map inTrace (ends r bs)
+traced-ends r bs f = traced-from (r .figures .capacity) (r .figures .end) (r .figures .start) (r .harvest) bs f
 
 -- the traced charges of feasible budgets are their charges
 pub trace-charges : (r : Request) (bs : List ℕ) → feasible r bs ≡ true → trace r bs ≡ map pos (charges r bs)
-trace-charges r bs f = trace-from (r .figures .capacity) (r .figures .end) (r .figures .start) (r .harvest) bs f
+trace-charges r bs f =
+    ap (map (λ (e : TracedEnd). e .charge)) (traced-ends r bs f)
+    ∙ (map-map (λ (e : TracedEnd). e .charge) inTrace (ends r bs)
+    ∙ sym (map-map pos (λ (e : FrameEnd). e .charge) (ends r bs)))
+
+-- and their traced losses are their losses
+pub trace-losses : (r : Request) (bs : List ℕ) → feasible r bs ≡ true → traceLosses r bs ≡ losses r bs
+trace-losses r bs f =
+    ap (map (λ (e : TracedEnd). e .lost)) (traced-ends r bs f)
+    ∙ map-map (λ (e : TracedEnd). e .lost) inTrace (ends r bs)
 
 -- budgets feasible from charge x are one for each harvest
 length-from : (c e x : ℕ) (hs bs : List ℕ) → feasibleFrom c e x hs bs ≡ true → length bs ≡ length hs

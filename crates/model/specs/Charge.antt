@@ -1,6 +1,6 @@
--- The charge after a frame, and Definition 1 of the source: which assignments are feasible.
+-- What a frame ends with, the charge and the loss, and Definition 1 of the source: which assignments are feasible.
 use mathlib.Core.Bool.{Bool, false, _&&_}
-use mathlib.Core.List.{List, [], _∷_}
+use mathlib.Core.List.{List, [], _∷_, map}
 use Prim.Native.Nat.{ℕ, _+_, _-_, min}
 use lib.Dec.{leb}
 use Rattle.model.specs.Request.{Request}
@@ -29,14 +29,25 @@ feasibleFrom c e x (h ∷ hs) (b ∷ bs) = leb b (atHand c x h) && feasibleFrom 
 abbrev pub feasible : Request → List ℕ → Bool
 feasible r bs = feasibleFrom (r .figures .capacity) (r .figures .end) (r .figures .start) (r .harvest) bs
 
--- the charge after each frame of an assignment
+-- what each frame of an assignment ends with
+abbrev pub endsFrom : ℕ → ℕ → List ℕ → List ℕ → List FrameEnd
+endsFrom c x [] bs = []
+endsFrom c x (h ∷ hs) [] = []
+endsFrom c x (h ∷ hs) (b ∷ bs) = let e = frameEnd c x h b in e ∷ endsFrom c (e .charge) hs bs
+
+-- the charge after each frame
 abbrev pub chargesFrom : ℕ → ℕ → List ℕ → List ℕ → List ℕ
-chargesFrom c x [] bs = []
-chargesFrom c x (h ∷ hs) [] = []
-chargesFrom c x (h ∷ hs) (b ∷ bs) = let y = frameEnd c x h b .charge in y ∷ chargesFrom c y hs bs
+chargesFrom c x hs bs = map (λ (e : FrameEnd). e .charge) (endsFrom c x hs bs)
 
 abbrev pub charges : Request → List ℕ → List ℕ
 charges r bs = chargesFrom (r .figures .capacity) (r .figures .start) (r .harvest) bs
+
+-- what each frame loses
+abbrev pub lossesFrom : ℕ → ℕ → List ℕ → List ℕ → List ℕ
+lossesFrom c x hs bs = map (λ (e : FrameEnd). e .lost) (endsFrom c x hs bs)
+
+abbrev pub losses : Request → List ℕ → List ℕ
+losses r bs = lossesFrom (r .figures .capacity) (r .figures .start) (r .harvest) bs
 
 -- unlimited storage: the same rule with nothing lost
 abbrev pub feasibleUnlimitedFrom : ℕ → ℕ → List ℕ → List ℕ → Bool

@@ -103,13 +103,14 @@ neededRefusals r =
 abbrev pub neededRefusal : Request → Refusal
 neededRefusal r = firstOf (neededRefusals r)
 
--- of tracing, with a budget list of n and a charge list of m entries
-abbrev pub traceRefusals : Request → ℕ → ℕ → List Refusal
-traceRefusals r n m =
-    framesRefusals (frameCount r) ++ (wrongLength (frameCount r) n ∷ wrongLength (frameCount r) m ∷ figureRefusals r)
+-- of tracing, with lists of n budgets, m charges and l losses
+abbrev pub traceRefusals : Request → ℕ → ℕ → ℕ → List Refusal
+traceRefusals r n m l =
+    let k = frameCount r in
+    framesRefusals k ++ (wrongLength k n ∷ wrongLength k m ∷ wrongLength k l ∷ figureRefusals r)
 
-abbrev pub traceRefusal : Request → ℕ → ℕ → Refusal
-traceRefusal r n m = firstOf (traceRefusals r n m)
+abbrev pub traceRefusal : Request → ℕ → ℕ → ℕ → Refusal
+traceRefusal r n m l = firstOf (traceRefusals r n m l)
 
 -- of grading a list of k budgets
 abbrev pub gradeRefusal : ℕ → Refusal

@@ -1,14 +1,14 @@
--- The tracer: charges of any budgets as whole numbers, below zero included, and the verdict.
+-- The tracer: charges of any budgets as whole numbers, below zero included, what each frame loses, and the verdict.
 use mathlib.Core.Path.{_≡_}
 use mathlib.Core.Bool.{true, false}
-use mathlib.Core.List.{List, [], _∷_}
+use mathlib.Core.List.{List, [], _∷_, map}
 use lib.IntN.{ℤ, pos, negsuc, _+ℤ_, _-ℤ_}
 use lib.Signed.{leZ, nonNeg}
-use Prim.Native.Nat.{ℕ, zero, suc, _-_, _<_}
+use Prim.Native.Nat.{ℕ, zero, suc, _+_, _-_, _<_}
 use lib.Dec.{leb}
-use lib.ListN.{length, getD}
+use lib.ListN.{length, getD, take}
 use Rattle.model.specs.Choice.{pick}
-use Rattle.model.specs.Request.{Request}
+use Rattle.model.specs.Request.{Request, total}
 use Rattle.model.specs.declared.frame.TracedEnd.{TracedEnd}
 
 -- the smaller of two whole numbers
@@ -31,14 +31,25 @@ tracedEnd c x h b =
     let left = atHandZ c x h -ℤ pos b in
     record { charge = minZ (pos c) left; lost = excess left c }
 
+-- what each frame of any budgets ends with
+abbrev pub tracedFrom : ℕ → ℤ → List ℕ → List ℕ → List TracedEnd
+tracedFrom c x [] bs = []
+tracedFrom c x (h ∷ hs) [] = []
+tracedFrom c x (h ∷ hs) (b ∷ bs) = let e = tracedEnd c x h b in e ∷ tracedFrom c (e .charge) hs bs
+
 -- the charge after each frame
 abbrev pub traceFrom : ℕ → ℤ → List ℕ → List ℕ → List ℤ
-traceFrom c x [] bs = []
-traceFrom c x (h ∷ hs) [] = []
-traceFrom c x (h ∷ hs) (b ∷ bs) = let y = tracedEnd c x h b .charge in y ∷ traceFrom c y hs bs
+traceFrom c x hs bs = map (λ (e : TracedEnd). e .charge) (tracedFrom c x hs bs)
 
 abbrev pub trace : Request → List ℕ → List ℤ
 trace r bs = traceFrom (r .figures .capacity) (pos (r .figures .start)) (r .harvest) bs
+
+-- what each frame loses
+abbrev pub traceLossesFrom : ℕ → ℤ → List ℕ → List ℕ → List ℕ
+traceLossesFrom c x hs bs = map (λ (e : TracedEnd). e .lost) (tracedFrom c x hs bs)
+
+abbrev pub traceLosses : Request → List ℕ → List ℕ
+traceLosses r bs = traceLossesFrom (r .figures .capacity) (pos (r .figures .start)) (r .harvest) bs
 
 -- the earliest frame below zero among all but the last, the first being frame k; 0 for none
 abbrev pub belowFrom : ℕ → List ℤ → ℕ
@@ -50,6 +61,18 @@ belowFrom k (z ∷ (y ∷ zs)) = elim (nonNeg z) [ true ↦ belowFrom (suc k) (y
 abbrev pub lastFrom : ℤ → List ℤ → ℤ
 lastFrom x [] = x
 lastFrom x (z ∷ zs) = lastFrom z zs
+
+-- charges zs and losses ls leave no unit out: after any number n of frames start plus the harvests so far is the charge
+-- plus the budgets so far plus the losses so far
+abbrev pub Balanced : Request → List ℕ → List ℤ → List ℕ → Type 0
+Balanced r bs zs ls =
+    (n : ℕ) →
+    pos (r .figures .start + total (take n (r .harvest)))
+    ≡ lastFrom (pos (r .figures .start)) (take n zs) +ℤ pos (total (take n bs) + total (take n ls))
+
+-- a frame that loses leaves the store full, so that below zero nothing is lost
+abbrev pub LostWhenFull : Request → List ℤ → List ℕ → Type 0
+LostWhenFull r zs ls = (i : ℕ) → 0 < getD ls i 0 → getD zs i (pos 0) ≡ pos (r .figures .capacity)
 
 -- document 01's verdict on a supplied list
 pub data Verdict : Type 0 where

@@ -5,13 +5,13 @@ use mathlib.Core.List.{List, [], _∷_, _++_}
 use Prim.Native.Nat.{ℕ, suc, _+_, _*_, _^_, _≤_, _<_}
 use native.Mathlib.Omega.{arith}
 use native.Mathlib.Nat.{le-trans}
-use lib.ListN.{length, take, length-append}
+use lib.ListN.{length, getD, take, length-append}
 use Rattle.model.specs.declared.Refusal.{Refusal}
 use Rattle.model.specs.Choice.{pick}
 use Rattle.model.specs.Limits.{maxFrames, maxHarvest, maxCapacity}
 use Rattle.model.specs.Request.{Request, frameCount, total}
 use Rattle.model.specs.Refusals.{isNone, planRefusal}
-use Rattle.model.specs.Charge.{frameEnd, chargesFrom, charges}
+use Rattle.model.specs.Charge.{frameEnd, chargesFrom, charges, lossesFrom, losses}
 use Rattle.model.specs.Curves.{houseCurve, worth, grade}
 use Rattle.model.specs.Plan.{planOf, neededOf}
 use Rattle.model.proofs.Curves.{worth-bound}
@@ -20,7 +20,7 @@ use Rattle.model.proofs.Reach.{spent}
 use Rattle.model.proofs.Request.{plan-feasible}
 use Rattle.model.proofs.Trace.{feasible-length}
 use Rattle.request.proofs.Harvest.{total-small}
-use Rattle.request.proofs.Within.{plan-within}
+use Rattle.request.proofs.Within.{FiguresWithin, plan-within}
 use Rattle.wordfile.specs.File.{requestIn, readRefusal}
 use Rattle.text.specs.Line.{lineOf, linesOf}
 use Rattle.text.specs.Wrote.{Wrote}
@@ -28,27 +28,35 @@ use Rattle.text.proofs.Line.{line-fits}
 use Rattle.text.proofs.Written.{wrote-whole}
 use Rattle.printed.specs.Text as T
 use Rattle.printed.specs.Text.{firstPattern, framePattern, worthPattern, refusedPattern, refusedLine}
-use Rattle.printed.specs.Text.{frameDigits, energyDigits, worthDigits, largestEnergy, frameRoom, listingBytes}
+use Rattle.printed.specs.Text.{frameDigits, energyDigits, worthDigits, largestEnergy, frameWidths, frameRoom}
+use Rattle.printed.specs.Text.{listingBytes}
 use Rattle.printed.specs.Text.{frameRows, showing, shownOf, requestText, listing}
 use Rattle.printed.proofs.Short.{Short, plan-short, read-short}
 
--- the lines of all frames: no charge is above the capacity, no budget above their sum
-frames-fit : (c x i : ℕ) (hs bs : List ℕ) → c ≤ maxCapacity → total bs ≤ largestEnergy →
-    i + length bs ≤ suc maxFrames →
-    length (linesOf framePattern (frameRows i bs (chargesFrom c x hs bs))) ≤ frameRoom * length bs
-frames-fit c x i [] [] hc hb hi = omega arith
-frames-fit c x i [] (b ∷ bs) hc hb hi = omega arith
-frames-fit c x i (h ∷ hs) [] hc hb hi = omega arith
-frames-fit c x i (h ∷ hs) (b ∷ bs) hc hb hi =
-    let y = frameEnd c x h b .charge in
-    let ns = i ∷ b ∷ y ∷ [] in
-    let l = line-fits framePattern ns (frameDigits ∷ energyDigits ∷ energyDigits ∷ [])
-    (omega arith, omega arith, (omega arith, omega arith, (omega arith, omega arith, tt))) in
-    let r = frames-fit c y (suc i) hs bs hc (omega arith) (omega arith) in
+-- the lines of all frames from a charge within the capacity: no charge is above it, no budget above their sum, no loss
+-- above its harvest
+frames-fit : (c x i : ℕ) (hs bs : List ℕ) → c ≤ maxCapacity → x ≤ c → ((j : ℕ) → getD hs j 0 ≤ maxHarvest) →
+    total bs ≤ largestEnergy → i + length bs ≤ suc maxFrames →
+    length (linesOf framePattern (frameRows i bs (chargesFrom c x hs bs) (lossesFrom c x hs bs))) ≤ frameRoom
+    * length bs
+frames-fit c x i [] [] hc hx hh hb hi = omega arith
+frames-fit c x i [] (b ∷ bs) hc hx hh hb hi = omega arith
+frames-fit c x i (h ∷ hs) [] hc hx hh hb hi = omega arith
+frames-fit c x i (h ∷ hs) (b ∷ bs) hc hx hh hb hi =
+    let e = frameEnd c x h b in
+    let y = e .charge in
+    let ns = i ∷ b ∷ y ∷ e .lost ∷ [] in
+    let m = hh 0 in
+    let l = line-fits framePattern ns frameWidths (
+      omega arith,
+      omega arith,
+      (omega arith, omega arith, (omega arith, omega arith, (omega arith, omega arith, tt))),
+    ) in
+    let r = frames-fit c y (suc i) hs bs hc (omega arith) (λ j. hh (suc j)) (omega arith) (omega arith) in
     omega (
       arith,
       length-append (lineOf framePattern ns)
-          (linesOf framePattern (frameRows (suc i) bs (chargesFrom c y hs bs))),
+          (linesOf framePattern (frameRows (suc i) bs (chargesFrom c y hs bs) (lossesFrom c y hs bs))),
     )
 
 -- no list is worth more than 24 for each unit
@@ -67,16 +75,17 @@ grade-small c bs h = below (grade (houseCurve c) bs) (total bs) (grade-bound c b
     below v t p h = omega arith
 
 -- the listing of budgets whose sum is within the most energy
-shown-fits : (q : Request) (bs : List ℕ) → length bs ≤ maxFrames → frameCount q ≤ maxFrames →
-    q .figures .capacity ≤ maxCapacity →
+shown-fits : (q : Request) (bs : List ℕ) → length bs ≤ maxFrames → frameCount q ≤ maxFrames → FiguresWithin q →
     total bs ≤ largestEnergy → neededOf q ≤ largestEnergy → length (showing (shownOf q bs)) ≤ listingBytes
-shown-fits q bs l k c t n =
+shown-fits q bs l k v t n =
+    let c = v .capacity-small in
     let first = frameCount q ∷ q .figures .capacity ∷ neededOf q ∷ [] in
-    let rows = frameRows 1 bs (charges q bs) in
+    let rows = frameRows 1 bs (charges q bs) (losses q bs) in
     let last = grade (houseCurve 0) bs ∷ grade (houseCurve 1) bs ∷ grade (houseCurve 2) bs ∷ [] in
     let f = line-fits firstPattern first (frameDigits ∷ energyDigits ∷ energyDigits ∷ [])
     (omega arith, omega arith, (omega arith, omega arith, (omega arith, omega arith, tt))) in
-    let m = frames-fit (q .figures .capacity) (q .figures .start) 1 (q .harvest) bs c t (omega arith) in
+    let m = frames-fit (q .figures .capacity) (q .figures .start) 1 (q .harvest) bs c (v .start-fits)
+    (v .harvest-fits) t (omega arith) in
     let w = line-fits worthPattern last (worthDigits ∷ worthDigits ∷ worthDigits ∷ [])
     (omega arith, grade-small 0 bs t, (omega arith, grade-small 1 bs t, (omega arith, grade-small 2 bs t, tt))) in
     room
@@ -122,7 +131,7 @@ request-fits q = go (isNone f) refl
         let d = feasible-length q bs g in
         let u = spent (q .figures .capacity) (q .figures .end) (q .figures .start) (q .harvest) bs g in
         let m = needed-at-most q (w .reach) in
-        shown-fits q bs (omega arith) k c (omega arith) (omega arith)
+        shown-fits q bs (omega arith) k (w .figures) (omega arith) (omega arith)
     go false e = refused-fits f (plan-short q (frameCount q))
 
 -- a file's listing, whatever the file

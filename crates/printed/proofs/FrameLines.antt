@@ -20,20 +20,28 @@ abbrev pub amounts : List ℤ → List ℕ
 amounts zs = map natAbs zs
 
 -- the lines from a frame on
-abbrev pub linesFrom : ℕ → List ℕ → List ℤ → List ℕ
-linesFrom i bs zs = linesOf framePattern (frameRows (i + 1) (drop i bs) (drop i (amounts zs)))
+abbrev pub linesFrom : ℕ → List ℕ → List ℤ → List ℕ → List ℕ
+linesFrom i bs zs ls = linesOf framePattern (frameRows (i + 1) (drop i bs) (drop i (amounts zs)) (drop i ls))
 
 -- a frame's line, and those from the next on
-pub lines-more : (i : ℕ) (bs : List ℕ) (zs : List ℤ) (x : ℕ) → i < length bs → length zs ≡ length bs →
-    x ≡ natAbs (getD zs i (pos 0)) →
-    linesFrom i bs zs ≡ lineOf framePattern ((i + 1) ∷ getD bs i 0 ∷ x ∷ []) ++ linesFrom (i + 1) bs zs
-lines-more i bs zs x l e r =
+pub lines-more : (i : ℕ) (bs : List ℕ) (zs : List ℤ) (ls : List ℕ) (x : ℕ) → i < length bs →
+    length zs ≡ length bs → length ls ≡ length bs → x ≡ natAbs (getD zs i (pos 0)) →
+    linesFrom i bs zs ls ≡ lineOf framePattern ((i + 1) ∷ getD bs i 0 ∷ x ∷ getD ls i 0 ∷ [])
+    ++ linesFrom (i + 1) bs zs ls
+lines-more i bs zs ls x l e f r =
     let xs = amounts zs in
     let v : getD xs i 0 ≡ x = List·getD-map natAbs zs i (pos 0) ∙ sym r in
-    rw (add-one i, drop-cons bs i 0 l, drop-cons xs i 0 (omega (arith, length-map zs natAbs)), v, add-one (suc i)) refl
+    rw (
+      add-one i,
+      drop-cons bs i 0 l,
+      drop-cons xs i 0 (omega (arith, length-map zs natAbs)),
+      drop-cons ls i 0 (omega arith),
+      v,
+      add-one (suc i),
+    ) refl
 
-pub lines-none : (i : ℕ) (bs : List ℕ) (zs : List ℤ) → length bs ≤ i → linesFrom i bs zs ≡ []
-lines-none i bs zs l = rw (drop-of-length-le bs {i = i} l) refl
+pub lines-none : (i : ℕ) (bs : List ℕ) (zs : List ℤ) (ls : List ℕ) → length bs ≤ i → linesFrom i bs zs ls ≡ []
+lines-none i bs zs ls l = rw (drop-of-length-le bs {i = i} l) refl
 
 -- the amounts of charges that are none below zero
 pub amounts-pos : (xs : List ℕ) → amounts (map pos xs) ≡ xs

@@ -3,7 +3,7 @@ use mathlib.Core.Path.{_≡_, refl, ap}
 use mathlib.Core.List.{List, [], _∷_}
 use Prim.Native.Nat.{ℕ}
 use native.Mathlib.Omega.{arith}
-use lib.ListN.{length, getD}
+use lib.ListN.{getD}
 use Rattle.model.specs.declared.Refusal.{Refusal}
 use Rattle.model.specs.Request.{Request, request, figures}
 use Rattle.model.specs.Frames.{reserve, largest, budget, plan, requirement, peak}
@@ -14,22 +14,20 @@ use Rattle.wordfile.specs.File.{fileBytes}
 use Rattle.text.specs.Decimal.{decimal}
 use Rattle.text.specs.Line.{lineOf}
 use Rattle.printed.specs.Text.{refusedLine, Shown, showing, listing}
-use Rattle.printed.specs.Means.{ListMeans}
+use Rattle.printed.specs.Means.{Paired, ListMeans}
 
 -- its plan is 1, 2 and its needed capacity 0
 abbrev pub asked : Request
 asked = request (figures 9 0 0) (1 ∷ 2 ∷ [])
 
 -- no text that shows other budgets, whatever else it shows: zeros, or one fixed plan
-pub other-budgets-refused : (g : Shown) → length (g .charges) ≡ length (g .budgets) → ListMeans asked (showing g) →
-    g .budgets ≡ 1 ∷ 2 ∷ []
+pub other-budgets-refused : (g : Shown) → Paired g → ListMeans asked (showing g) → g .budgets ≡ 1 ∷ 2 ∷ []
 unfolding planOf plan framesOf budget largest reserve
 other-budgets-refused g l m =
     plan-demand asked (omega arith) (omega arith) .only-plan (g .budgets) (m .right g (l, refl) .plan)
 
 -- no text that shows another needed capacity: start plus all harvest, or the capacity
-pub other-needed-refused : (g : Shown) → length (g .charges) ≡ length (g .budgets) → ListMeans asked (showing g) →
-    g .needed ≡ 0
+pub other-needed-refused : (g : Shown) → Paired g → ListMeans asked (showing g) → g .needed ≡ 0
 unfolding neededOf openPlan plan framesOf budget largest reserve peak requirement
 other-needed-refused g l m = needed-demand asked (omega arith) .only-needed (g .needed) (m .right g (l, refl) .needed)
 

@@ -6,13 +6,13 @@ use mathlib.Core.Bool.{Bool, true, false}
 use mathlib.Core.List.{List, [], _∷_, _++_, map}
 use Prim.Native.Nat.{ℕ, suc}
 use native.Mathlib.Omega.{arith}
-use lib.ListN.{length, getD}
+use lib.ListN.{length, getD, drop, length-map}
 use Rattle.model.specs.declared.Refusal.{Refusal}
 use Rattle.model.specs.Choice.{pick}
 use Rattle.model.specs.Limits.{maxFrames}
 use Rattle.model.specs.Request.{Request, frameCount}
 use Rattle.model.specs.Refusals.{refusal, isNone, planRefusal}
-use Rattle.model.specs.Charge.{frameEnd, chargesFrom, charges}
+use Rattle.model.specs.Charge.{FrameEnd, frameEnd, endsFrom, charges, losses}
 use Rattle.model.specs.Plan.{planOf}
 use Rattle.model.proofs.Needed.{needed-is}
 use Rattle.model.proofs.Refusals.{NotNine, plan-nine}
@@ -22,72 +22,75 @@ use Rattle.request.proofs.Within.{plan-within}
 use Rattle.wordfile.specs.File.{requestIn, readRefusal}
 use Rattle.wordfile.proofs.Refused.{read-small}
 use Rattle.wordfile.specs.declared.form.Form.the-variants.{Closed, Broken}
-use Rattle.text.specs.Ascii.{ascii}
 use Rattle.text.specs.Line.{lineOf, linesOf}
 use Rattle.text.proofs.Line.{line-byte}
 use Rattle.text.proofs.Tells.{AllLong, line-same, lines-same}
 use Rattle.printed.specs.Text.{firstPattern, framePattern, worthPattern, refusedPattern, refusedLine, frameRows}
 use Rattle.printed.specs.Text.{Shown, showing, shownOf, requestText, listing}
-use Rattle.printed.specs.Means.{Right, ListMeans}
+use Rattle.printed.specs.Means.{Right, Paired, ListMeans}
 
 -- ---- equal texts show the same figures
 
--- as many charges as budgets
-abbrev Paired : Shown → Type 0
-Paired g = length (g .charges) ≡ length (g .budgets)
+rows-long : (i : ℕ) (bs xs ls : List ℕ) → AllLong 4 (frameRows i bs xs ls)
+rows-long i [] xs ls = tt
+rows-long i (b ∷ bs) [] ls = tt
+rows-long i (b ∷ bs) (x ∷ xs) [] = tt
+rows-long i (b ∷ bs) (x ∷ xs) (l ∷ ls) = (refl, rows-long (suc i) bs xs ls)
 
-rows-long : (i : ℕ) (bs xs : List ℕ) → AllLong 3 (frameRows i bs xs)
-rows-long i [] xs = tt
-rows-long i (b ∷ bs) [] = tt
-rows-long i (b ∷ bs) (x ∷ xs) = (refl, rows-long (suc i) bs xs)
-
--- the rows tell the budgets and the charges
+-- the rows tell the budgets, the charges and the losses
 abbrev column : ℕ → List (List ℕ) → List ℕ
 column j rows = map (λ (ns : List ℕ). getD ns j 0) rows
 
-columns : (i : ℕ) (bs xs : List ℕ) → length xs ≡ length bs →
-    (column 1 (frameRows i bs xs) ≡ bs) × (column 2 (frameRows i bs xs) ≡ xs)
-columns i [] [] l = (refl, refl)
-columns i [] (x ∷ xs) l = absurd (omega arith)
-columns i (b ∷ bs) [] l = absurd (omega arith)
-columns i (b ∷ bs) (x ∷ xs) l =
-    let r = columns (suc i) bs xs (omega arith) in
-    (ap (λ (t : List ℕ). b ∷ t) (r .0), ap (λ (t : List ℕ). x ∷ t) (r .1))
+columns : (i : ℕ) (bs xs ls : List ℕ) → length xs ≡ length bs → length ls ≡ length bs →
+    let rows = frameRows i bs xs ls in
+    (column 1 rows ≡ bs) × (column 2 rows ≡ xs) × (column 3 rows ≡ ls)
+columns i [] [] [] p q = (refl, refl, refl)
+columns i [] (x ∷ xs) ls p q = absurd (omega arith)
+columns i [] [] (l ∷ ls) p q = absurd (omega arith)
+columns i (b ∷ bs) [] ls p q = absurd (omega arith)
+columns i (b ∷ bs) (x ∷ xs) [] p q = absurd (omega arith)
+columns i (b ∷ bs) (x ∷ xs) (l ∷ ls) p q =
+    let r = columns (suc i) bs xs ls (omega arith) (omega arith) in (
+      ap (λ (t : List ℕ). b ∷ t) (r .0),
+      ap (λ (t : List ℕ). x ∷ t) (r .1),
+      ap (λ (t : List ℕ). l ∷ t) (r .2),
+    )
 
 -- the last line behind its first letter
 abbrev worthTail : List ℕ
-worthTail = ascii "orth # # #\n"
+worthTail = drop 1 worthPattern
 
 abbrev sums : Shown → List ℕ
 sums g = g .worth0 ∷ g .worth1 ∷ g .worth2 ∷ []
 
 pub shown-same : (g h : Shown) → Paired g → Paired h → showing g ≡ showing h → g ≡ h
 shown-same g h p q e =
-    let rows : Shown → List (List ℕ) = λ k. frameRows 1 (k .budgets) (k .charges) in
+    let rows : Shown → List (List ℕ) = λ k. frameRows 1 (k .budgets) (k .charges) (k .losses) in
     let rest : Shown → List ℕ = λ k. linesOf framePattern (rows k) ++ lineOf worthPattern (sums k) in
     let a = line-same firstPattern (g .frames ∷ g .capacity ∷ g .needed ∷ [])
     (h .frames ∷ h .capacity ∷ h .needed ∷ []) (rest g) (rest h)
     refl refl refl e in
-    let b = lines-same 32 (ascii "# #\n") (omega arith) refl refl 119 (omega arith) (rows g) (rows h)
+    let b = lines-same 32 (drop 2 framePattern) (omega arith) refl refl 119 (omega arith) (rows g) (rows h)
     (lineOf worthTail (sums g)) (lineOf worthTail (sums h))
-    (rows-long 1 (g .budgets) (g .charges)) (rows-long 1 (h .budgets) (h .charges))
+    (rows-long 1 (g .budgets) (g .charges) (g .losses)) (rows-long 1 (h .budgets) (h .charges) (h .losses))
     (rw (line-byte 119 worthTail (sums g) refl, line-byte 119 worthTail (sums h) refl) at (a .1)) in
     let c = line-same worthTail (sums g) (sums h) [] [] refl refl refl (ap (λ (t : List ℕ). t ++ []) (b .1)) in
-    let x = columns 1 (g .budgets) (g .charges) p in
-    let y = columns 1 (h .budgets) (h .charges) q in
+    let x = columns 1 (g .budgets) (g .charges) (g .losses) (p .0) (p .1) in
+    let y = columns 1 (h .budgets) (h .charges) (h .losses) (q .0) (q .1) in
     same-fields g h (a .0) (sym (x .0) ∙ (ap (column 1) (b .0) ∙ y .0)) (sym (x .1) ∙ (ap (column 2) (b .0) ∙ y .1))
+    (sym (x .2) ∙ (ap (column 3) (b .0) ∙ y .2))
     (c .0)
   where
     same-fields : (g h : Shown) → g .frames ∷ g .capacity ∷ g .needed ∷ [] ≡ h .frames ∷ h .capacity ∷ h .needed ∷ [] →
-        g .budgets ≡ h .budgets → g .charges ≡ h .charges → sums g ≡ sums h → g ≡ h
-    same-fields g h a b c d =
+        g .budgets ≡ h .budgets → g .charges ≡ h .charges → g .losses ≡ h .losses → sums g ≡ sums h → g ≡ h
+    same-fields g h a b c l d =
         let k : g .frames ≡ h .frames = cc in
-        let l : g .capacity ≡ h .capacity = cc in
+        let f : g .capacity ≡ h .capacity = cc in
         let m : g .needed ≡ h .needed = cc in
         let u : g .worth0 ≡ h .worth0 = cc in
         let v : g .worth1 ≡ h .worth1 = cc in
         let w : g .worth2 ≡ h .worth2 = cc in
-        rw (k, l, m, b, c, u, v, w) refl
+        rw (k, f, m, b, c, l, u, v, w) refl
 
 -- a refusal's line tells its number
 refused-same : (f g : Refusal) → refusedLine f ≡ refusedLine g → f .number ≡ g .number
@@ -102,23 +105,30 @@ refusal-no-figures : (f : Refusal) (g : Shown) → refusedLine f ≡ showing g �
 refusal-no-figures f g e =
     let z : _≡_ {A = ℕ} 114 102 =
     ap (λ (t : List ℕ). getD t 0 0)
-    (sym (line-byte 114 (ascii "efused # #\n") (f .number ∷ f .p ∷ []) refl)
+    (sym (line-byte 114 (drop 1 refusedPattern) (f .number ∷ f .p ∷ []) refl)
     ∙ (e ∙ ap (λ (t : List ℕ). t ++ rest)
-    (line-byte 102 (ascii "rames # capacity # needed #\n") (g .frames ∷ g .capacity ∷ g .needed ∷ []) refl))) in
+    (line-byte 102 (drop 1 firstPattern) (g .frames ∷ g .capacity ∷ g .needed ∷ []) refl))) in
     omega arith
   where
     rest : List ℕ
-    rest = linesOf framePattern (frameRows 1 (g .budgets) (g .charges)) ++ lineOf worthPattern (sums g)
+    rest = linesOf framePattern (frameRows 1 (g .budgets) (g .charges) (g .losses)) ++ lineOf worthPattern (sums g)
 
 -- ---- the listing of a request
 
--- as many charges as harvests and budgets
-pub charges-length : (c x : ℕ) (hs bs : List ℕ) → length bs ≡ length hs → length (chargesFrom c x hs bs) ≡ length bs
-charges-length c x [] [] l = refl
-charges-length c x [] (b ∷ bs) l = absurd (omega arith)
-charges-length c x (h ∷ hs) [] l = absurd (omega arith)
-charges-length c x (h ∷ hs) (b ∷ bs) l = let i = charges-length c (frameEnd c x h b .charge) hs bs (omega arith) in
+-- a frame ends for each harvest and budget, so that there is a charge and a loss for each
+ends-length : (c x : ℕ) (hs bs : List ℕ) → length bs ≡ length hs → length (endsFrom c x hs bs) ≡ length bs
+ends-length c x [] [] l = refl
+ends-length c x [] (b ∷ bs) l = absurd (omega arith)
+ends-length c x (h ∷ hs) [] l = absurd (omega arith)
+ends-length c x (h ∷ hs) (b ∷ bs) l = let i = ends-length c (frameEnd c x h b .charge) hs bs (omega arith) in
     omega arith
+
+pub ends-paired : (q : Request) (bs : List ℕ) → length bs ≡ frameCount q →
+    (length (charges q bs) ≡ length bs) × (length (losses q bs) ≡ length bs)
+ends-paired q bs l =
+    let es = endsFrom (q .figures .capacity) (q .figures .start) (q .harvest) bs in
+    let n = ends-length (q .figures .capacity) (q .figures .start) (q .harvest) bs l in
+    (length-map es (λ (e : FrameEnd). e .charge) ∙ n, length-map es (λ (e : FrameEnd). e .lost) ∙ n)
 
 request-means : (q : Request) → ListMeans q (requestText q)
 request-means q = go (isNone f) refl
@@ -134,8 +144,7 @@ request-means q = go (isNone f) refl
     go true ok =
         let w = plan-within q (frameCount q) ok in
         let p = plan-is q (w .figures .start-fits) (w .figures .end-fits) (w .reach) in
-        let l = charges-length (q .figures .capacity) (q .figures .start) (q .harvest) (planOf q)
-        (feasible-length q (planOf q) (p .is-feasible)) in
+        let l = ends-paired q (planOf q) (feasible-length q (planOf q) (p .is-feasible)) in
         let r : Right q g =
         record {
           frames = refl;
@@ -143,6 +152,7 @@ request-means q = go (isNone f) refl
           needed = needed-is q (w .reach);
           plan = p;
           after = refl;
+          lost = refl;
           worth0 = refl;
           worth1 = refl;
           worth2 = refl;

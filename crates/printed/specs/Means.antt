@@ -8,25 +8,31 @@ use lib.ListN.{length}
 use Rattle.model.specs.Request.{Request, frameCount}
 use Rattle.model.specs.Refusals.{refusal}
 use Rattle.model.specs.declared.Refusal.{Refusal}
-use Rattle.model.specs.Charge.{feasible, charges}
+use Rattle.model.specs.Charge.{feasible, charges, losses}
 use Rattle.model.specs.Curves.{houseCurve, grade}
 use Rattle.model.specs.Reward.{IsPlan, IsNeeded}
 use Rattle.printed.specs.Text.{refusedLine, Shown, showing}
 
--- figures that are right for the request q: K, the capacity, the needed capacity, the plan, its charges and its worth
+-- figures that are right for the request q: K, the capacity, the needed capacity, the plan, its charges, its losses and
+-- its worth
 pub record Right (q : Request) (g : Shown) : Type 0 where
   pub frames : g .frames ≡ frameCount q
   pub capacity : g .capacity ≡ q .figures .capacity
   pub needed : IsNeeded q (g .needed)
   pub plan : IsPlan q (g .budgets)
   pub after : g .charges ≡ charges q (g .budgets)
+  pub lost : g .losses ≡ losses q (g .budgets)
   pub worth0 : g .worth0 ≡ grade (houseCurve 0) (g .budgets)
   pub worth1 : g .worth1 ≡ grade (houseCurve 1) (g .budgets)
   pub worth2 : g .worth2 ≡ grade (houseCurve 2) (g .budgets)
 
--- the text t shows these figures, with a charge for each budget
+-- figures with a charge and a loss for each budget
+abbrev pub Paired : Shown → Type 0
+Paired g = (length (g .charges) ≡ length (g .budgets)) × (length (g .losses) ≡ length (g .budgets))
+
+-- the text t shows these figures
 abbrev pub Shows : List ℕ → Shown → Type 0
-Shows t g = (length (g .charges) ≡ length (g .budgets)) × (t ≡ showing g)
+Shows t g = Paired g × (t ≡ showing g)
 
 -- what can be read from a listing t of the request q
 pub record ListMeans (q : Request) (t : List ℕ) : Type 0 where

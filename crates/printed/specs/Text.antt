@@ -6,7 +6,7 @@ use Rattle.model.specs.Choice.{pick}
 use Rattle.model.specs.Limits.{maxFrames, maxHarvest, maxCapacity}
 use Rattle.model.specs.Request.{Request, frameCount}
 use Rattle.model.specs.Refusals.{isNone, planRefusal}
-use Rattle.model.specs.Charge.{charges}
+use Rattle.model.specs.Charge.{charges, losses}
 use Rattle.model.specs.Curves.{houseCurve, grade}
 use Rattle.model.specs.Plan.{planOf, neededOf}
 use Rattle.wordfile.specs.File.{requestIn, readRefusal}
@@ -20,9 +20,9 @@ use Rattle.text.specs.Line.{lineOf, linesOf, roomOf}
 abbrev pub firstPattern : List ℕ
 firstPattern = ascii "frames # capacity # needed #\n"
 
--- a frame's line: its number, its budget, the charge after it
+-- a frame's line: its number, its budget, the charge after it, its loss
 abbrev pub framePattern : List ℕ
-framePattern = ascii "# # #\n"
+framePattern = ascii "# # # #\n"
 
 -- the last line: the sums of the three house curves
 abbrev pub worthPattern : List ℕ
@@ -49,6 +49,10 @@ largestEnergy = maxCapacity + maxHarvest * maxFrames
 abbrev pub energyDigits : ℕ
 energyDigits = places largestEnergy
 
+-- digits of a loss, which is at most a harvest
+abbrev pub lossDigits : ℕ
+lossDigits = places maxHarvest
+
 -- digits of what a list of budgets is worth: no unit earns more than 24
 abbrev pub worthDigits : ℕ
 worthDigits = places (24 * largestEnergy)
@@ -57,9 +61,13 @@ worthDigits = places (24 * largestEnergy)
 abbrev pub firstRoom : ℕ
 firstRoom = roomOf firstPattern (frameDigits ∷ energyDigits ∷ energyDigits ∷ [])
 
+-- digits of the figures of a frame's line
+abbrev pub frameWidths : List ℕ
+frameWidths = frameDigits ∷ energyDigits ∷ energyDigits ∷ lossDigits ∷ []
+
 -- bytes of the longest line of a frame
 abbrev pub frameRoom : ℕ
-frameRoom = roomOf framePattern (frameDigits ∷ energyDigits ∷ energyDigits ∷ [])
+frameRoom = roomOf framePattern frameWidths
 
 -- bytes of the longest last line
 abbrev pub worthRoom : ℕ
@@ -72,19 +80,21 @@ listingBytes = firstRoom + (frameRoom * maxFrames + worthRoom)
 -- ---- the listing
 
 -- the figures of the frames' lines, a row for each frame, the first being frame i
-abbrev pub frameRows : ℕ → List ℕ → List ℕ → List (List ℕ)
-frameRows i [] xs = []
-frameRows i (b ∷ bs) [] = []
-frameRows i (b ∷ bs) (x ∷ xs) = (i ∷ b ∷ x ∷ []) ∷ frameRows (suc i) bs xs
+abbrev pub frameRows : ℕ → List ℕ → List ℕ → List ℕ → List (List ℕ)
+frameRows i [] xs ls = []
+frameRows i (b ∷ bs) [] ls = []
+frameRows i (b ∷ bs) (x ∷ xs) [] = []
+frameRows i (b ∷ bs) (x ∷ xs) (l ∷ ls) = (i ∷ b ∷ x ∷ l ∷ []) ∷ frameRows (suc i) bs xs ls
 
--- what a listing shows: the figures of its first line, for each frame a budget and the charge after it, and the three
--- sums
+-- what a listing shows: the figures of its first line, for each frame a budget, the charge after it and its loss, and
+-- the three sums
 pub record Shown : Type 0 where
   pub frames : ℕ
   pub capacity : ℕ
   pub needed : ℕ
   pub budgets : List ℕ
   pub charges : List ℕ
+  pub losses : List ℕ
   pub worth0 : ℕ
   pub worth1 : ℕ
   pub worth2 : ℕ
@@ -93,11 +103,11 @@ pub record Shown : Type 0 where
 abbrev pub showing : Shown → List ℕ
 showing g =
     lineOf firstPattern (g .frames ∷ g .capacity ∷ g .needed ∷ [])
-    ++ (linesOf framePattern (frameRows 1 (g .budgets) (g .charges))
+    ++ (linesOf framePattern (frameRows 1 (g .budgets) (g .charges) (g .losses))
     ++ lineOf worthPattern (g .worth0 ∷ g .worth1 ∷ g .worth2 ∷ []))
 
--- what the listing of a request that is not refused shows, with its budgets: the charges after them and what they are
--- worth
+-- what the listing of a request that is not refused shows, with its budgets: the charges after them, the losses and
+-- what they are worth
 abbrev pub shownOf : Request → List ℕ → Shown
 shownOf q bs =
     record {
@@ -106,6 +116,7 @@ shownOf q bs =
       needed = neededOf q;
       budgets = bs;
       charges = charges q bs;
+      losses = losses q bs;
       worth0 = grade (houseCurve 0) bs;
       worth1 = grade (houseCurve 1) bs;
       worth2 = grade (houseCurve 2) bs;

@@ -31,29 +31,37 @@ pub fn put_worth(curve0: u64, curve1: u64, curve2: u64, out: &mut [u8], at: usiz
     put_line(b"worth # # #\n", &figures, out, at)
 }
 
-// A frame's line: its number, its budget, the charge after it.
-fn put_frame(frame: u64, budget: u64, charge: u64, out: &mut [u8], at: usize) -> usize
-    ensures { λ r. ⌜ Puts (lineOf framePattern (frame ∷ budget ∷ charge ∷ [])) (now (out .entry)) at
+// A frame's line: its number, its budget, the charge after it, its loss.
+fn put_frame(frame: u64, budget: u64, charge: u64, loss: u64, out: &mut [u8], at: usize) -> usize
+    ensures { λ r. ⌜ Puts (lineOf framePattern (frame ∷ budget ∷ charge ∷ loss ∷ [])) (now (out .entry)) at
         (now (out .exit)) r ⌝ }
 {
-    let figures = [frame, budget, charge];
-    put_line(b"# # #\n", &figures, out, at)
+    let figures = [frame, budget, charge, loss];
+    put_line(b"# # # #\n", &figures, out, at)
 }
 
-// The lines of all frames: each budget with the charge after it, none of them below zero.
-pub fn put_frames(budgets: &[u32], charges: &[i64], out: &mut [u8], at: usize) -> usize
+// The lines of all frames: each budget with the charge after it, none of them below zero, and the frame's loss.
+pub fn put_frames(
+    budgets: &[u32],
+    charges: &[i64],
+    losses: &[u32],
+    out: &mut [u8],
+    at: usize,
+) -> usize
     requires { ⌜ length (now budgets) ≤ maxFrames ⌝ }
     requires { ⌜ length (now charges) ≡ length (now budgets) ⌝ }
+    requires { ⌜ length (now losses) ≡ length (now budgets) ⌝ }
     requires { ⌜ ((i : ℕ) → T (nonNeg (getD (now charges) i (pos 0)))) ⌝ }
     ensures { λ r. ⌜ Puts (linesOf framePattern
-        (frameRows 1 (now (budgets .entry)) (map natAbs (now (charges .entry))))) (now (out .entry)) at
-        (now (out .exit)) r ⌝ }
+        (frameRows 1 (now (budgets .entry)) (map natAbs (now (charges .entry))) (now (losses .entry))))
+        (now (out .entry)) at (now (out .exit)) r ⌝ }
 {
     let mut next = at;
     let mut i: usize = 0;
     while i < budgets.len() {
         let charge = charges[i] as u64;
-        next = put_frame((i + 1) as u64, budgets[i] as u64, charge, out, next);
+        let loss = losses[i] as u64;
+        next = put_frame((i + 1) as u64, budgets[i] as u64, charge, loss, out, next);
         i += 1;
     }
     next

@@ -64,22 +64,25 @@ reach-within r e = ltb-false (mostEnergy r) (r .figures .end) (go (ltb (mostEner
     go false q = refl
 
 -- tracing is not refused
-pub record TraceWithin (r : Request) (n m : ℕ) : Type 0 where
+pub record TraceWithin (r : Request) (n m l : ℕ) : Type 0 where
   pub frames : FramesWithin (frameCount r)
   pub budgets : n ≡ frameCount r
   pub charges : m ≡ frameCount r
+  pub losses : l ≡ frameCount r
   pub figures : FiguresWithin r
 
-pub trace-within : (r : Request) (n m : ℕ) → isNone (R.traceRefusal r n m) ≡ true → TraceWithin r n m
-trace-within r n m e =
+pub trace-within : (r : Request) (n m l : ℕ) → isNone (R.traceRefusal r n m l) ≡ true → TraceWithin r n m l
+trace-within r n m l e =
     let k = frameCount r in
-    let a = both-none (R.framesRefusals k) (R.wrongLength k n ∷ (R.wrongLength k m ∷ R.figureRefusals r))
-    (first-none (R.traceRefusals r n m) e) in
+    let a = both-none (R.framesRefusals k)
+    (R.wrongLength k n ∷ (R.wrongLength k m ∷ (R.wrongLength k l ∷ R.figureRefusals r)))
+    (first-none (R.traceRefusals r n m l) e) in
     record {
       frames = frames-within k (a .0);
       budgets = length-within k n (a .1 .0);
       charges = length-within k m (a .1 .1 .0);
-      figures = figures-within r (a .1 .1 .1);
+      losses = length-within k l (a .1 .1 .1 .0);
+      figures = figures-within r (a .1 .1 .1 .1);
     }
 
 -- planning is not refused

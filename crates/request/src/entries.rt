@@ -12,18 +12,28 @@ use crate::sums::reach_refusal;
 use model::Figures;
 use model::Refusal;
 
-// Tracing with lists of so many budgets and charges.
-pub fn trace_refusal(figures: Figures, harvest: &[u32], budgets: usize, charges: usize) -> Refusal
-    ensures { λ r. ⌜ r ≡ traceRefusal (request figures (now (harvest .entry))) budgets charges ⌝ }
+// Tracing with lists of so many budgets, charges and losses.
+pub fn trace_refusal(
+    figures: Figures,
+    harvest: &[u32],
+    budgets: usize,
+    charges: usize,
+    losses: usize,
+) -> Refusal
+    ensures { λ r. ⌜ r ≡ traceRefusal (request figures (now (harvest .entry))) budgets charges losses ⌝ }
 {
     let k = harvest.len();
     let frames = frames_refusal(k);
     let budgets_length = length_refusal(k, budgets);
     let charges_length = length_refusal(k, charges);
+    let losses_length = length_refusal(k, losses);
     let limits = figures_refusal(figures, harvest);
     first_of(
         frames,
-        first_of(budgets_length, first_of(charges_length, limits)),
+        first_of(
+            budgets_length,
+            first_of(charges_length, first_of(losses_length, limits)),
+        ),
     )
 }
 

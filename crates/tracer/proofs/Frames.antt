@@ -1,30 +1,36 @@
 -- The frames one after another: what is written so far and the trace of the rest are the whole trace.
 use mathlib.Core.Path.{_≡_, refl, ap, _∙_}
-use mathlib.Core.List.{List, [], _∷_, _++_, append-assoc, append-nil}
+use mathlib.Core.List.{List, [], _∷_, _++_, map, append-assoc, append-nil}
 use Prim.Native.Nat.{ℕ, suc, _+_, _≤_, _<_}
 use native.Mathlib.Omega.{arith}
 use native.Mathlib.Numerals.{add-one}
 use lib.IntN.{ℤ}
 use lib.ListN.{length, getD, take, drop, set, drop-of-length-le}
 use lib.Seq.{drop-cons, take-suc-set, take-all}
-use Rattle.model.specs.Trace.{tracedEnd, traceFrom}
+use Rattle.model.specs.Trace.{tracedEnd, tracedFrom, traceFrom}
+use Rattle.model.specs.declared.frame.TracedEnd.{TracedEnd}
 
--- one more frame written
-pub step : (c : ℕ) (x y : ℤ) (i : ℕ) (hs bs : List ℕ) (cs : List ℤ) → i < length hs → i < length bs → i < length cs
-    → y ≡ tracedEnd c x (getD hs i 0) (getD bs i 0) .charge
-    → take (i + 1) (set cs i y) ++ traceFrom c y (drop (i + 1) hs) (drop (i + 1) bs) ≡ take i cs
-    ++ traceFrom c x (drop i hs) (drop i bs)
-step c x y i hs bs cs lh lb lc e =
-    rw (add-one i, take-suc-set cs i y lc, append-assoc, drop-cons hs i 0 lh, drop-cons bs i 0 lb)
-    (ap (λ (w : ℤ). take i cs ++ (w ∷ traceFrom c w (drop (suc i) hs) (drop (suc i) bs))) e)
+-- a column of what the frames end with: their charges, or their losses
+module _ {A : Type 0} (column : TracedEnd → A) (c : ℕ) (x : ℤ) (i : ℕ) (hs bs : List ℕ) (written : List A) where
+  -- one more frame written
+  pub step : (e : TracedEnd) → i < length hs → i < length bs → i < length written →
+      e ≡ tracedEnd c x (getD hs i 0) (getD bs i 0) →
+      take (i + 1) (set written i (column e))
+      ++ map column (tracedFrom c (e .charge) (drop (i + 1) hs) (drop (i + 1) bs)) ≡ take i written
+      ++ map column (tracedFrom c x (drop i hs) (drop i bs))
+  step e lh lb lw p =
+      rw (add-one i, take-suc-set written i (column e) lw, append-assoc, drop-cons hs i 0 lh, drop-cons bs i 0 lb)
+      (ap (λ (w : TracedEnd). take i written
+      ++ (column w ∷ map column (tracedFrom c (w .charge) (drop (suc i) hs) (drop (suc i) bs)))) p)
 
--- every frame written
-pub done : (c : ℕ) (x : ℤ) (i : ℕ) (hs bs : List ℕ) (cs : List ℤ) → length hs ≤ i → length cs ≤ i
-    → take i cs ++ traceFrom c x (drop i hs) (drop i bs) ≡ cs
-done c x i hs bs cs lh lc =
-    ap (λ (l : List ℕ). take i cs ++ traceFrom c x l (drop i bs)) (drop-of-length-le hs {i = i} lh)
-    ∙ append-nil (take i cs)
-    ∙ take-all i cs lc
+  -- every frame written
+  pub done : length hs ≤ i → length written ≤ i →
+      take i written ++ map column (tracedFrom c x (drop i hs) (drop i bs)) ≡ written
+  done lh lw =
+      ap (λ (l : List ℕ). take i written ++ map column (tracedFrom c x l (drop i bs)))
+      (drop-of-length-le hs {i = i} lh)
+      ∙ append-nil (take i written)
+      ∙ take-all i written lw
 
 -- a trace has one charge for each frame
 pub trace-length : (c : ℕ) (x : ℤ) (hs bs : List ℕ) → length bs ≡ length hs → length (traceFrom c x hs bs) ≡ length hs

@@ -14,7 +14,9 @@ use Rattle.model.specs.Choice.{pick}
 use Rattle.model.specs.Request.{Request, frameCount}
 use Rattle.model.specs.Refusals.{gives, refuses, isNone, traceRefusal}
 use Rattle.model.specs.Trace.{below-zero, end-too-low, is-feasible, belowFrom, lastFrom, trace, verdict, EarliestBelow}
+use Rattle.model.specs.Trace.{traceLosses}
 use Rattle.model.proofs.Trace as model
+use Rattle.model.proofs.Losses.{trace-balanced, trace-full}
 use Rattle.model.proofs.Choice.{apart, pick-by}
 use Rattle.request.proofs.Within.{trace-within}
 use Rattle.tracer.specs.declared.TraceAnswer.{TraceAnswer}
@@ -24,16 +26,21 @@ use Rattle.tracer.proofs.Frames.{trace-length}
 use Rattle.tracer.proofs.Search.{last-any, none-below}
 
 -- a refusal alters nothing and is answered
-pub refused : (q : Request) (bs : List ℕ) (xs : List ℤ) (f : Refusal) → f ≡ traceRefusal q (length bs) (length xs) →
-    isNone f ≡ false → TraceSays q bs xs xs (Refused f)
-refused q bs xs f p e =
-    let g = traceRefusal q (length bs) (length xs) in
+pub refused : (q : Request) (bs : List ℕ) (xs : List ℤ) (ls : List ℕ) (f : Refusal) →
+    f ≡ traceRefusal q (length bs) (length xs) (length ls) → isNone f ≡ false →
+    TraceSays q bs xs xs ls ls (Refused f)
+refused q bs xs ls f p e =
+    let g = traceRefusal q (length bs) (length xs) (length ls) in
     let n : isNone g ≡ false = sym (ap isNone p) ∙ e in
     record {
       answer = ap refuses p ∙ sym (pick-by (isNone g) false (gives (verdict q bs)) (refuses g) n);
       charges = sym (pick-by (isNone g) false (trace q bs) xs n);
+      losses = sym (pick-by (isNone g) false (traceLosses q bs) ls n);
       feasible = λ h. absurd (false≢true (sym n ∙ h));
       feasible-charges = λ h. apart (cc);
+      feasible-losses = λ h. apart (cc);
+      balanced = λ h. absurd (false≢true (sym n ∙ h));
+      lost-when-full = λ h. absurd (false≢true (sym n ∙ h));
       earliest = λ k h. apart (cc);
       too-low = λ h. apart (cc);
     }
@@ -92,13 +99,13 @@ too-low-of q bs ys u p =
     (sym p)
     (none-below 0 zs (omega arith), l .1)
 
--- where nothing is refused, the charges of the trace and the answer that they earn keep the promise
-pub traced : (q : Request) (bs : List ℕ) (xs ys : List ℤ) (r : TraceAnswer) →
-    isNone (traceRefusal q (length bs) (length xs)) ≡ true
-    → ys ≡ trace q bs → r ≡ judged (q .figures .end) ys → TraceSays q bs xs ys r
-traced q bs xs ys r n p e =
-    let g = traceRefusal q (length bs) (length xs) in
-    let w = trace-within q (length bs) (length xs) n in
+-- where nothing is refused, the charges and losses of the trace and the answer that the charges earn keep the promise
+pub traced : (q : Request) (bs : List ℕ) (xs ys : List ℤ) (ls ms : List ℕ) (r : TraceAnswer) →
+    isNone (traceRefusal q (length bs) (length xs) (length ls)) ≡ true →
+    ys ≡ trace q bs → ms ≡ traceLosses q bs → r ≡ judged (q .figures .end) ys → TraceSays q bs xs ys ls ms r
+traced q bs xs ys ls ms r n p o e =
+    let g = traceRefusal q (length bs) (length xs) (length ls) in
+    let w = trace-within q (length bs) (length xs) (length ls) n in
     let v : said r ≡ gives (verdict q bs) =
     ap said e ∙ ap (λ (zs : List ℤ). said (judged (q .figures .end) zs)) p
     ∙ said-judged q bs (w .frames .some) (w .budgets) in
@@ -106,8 +113,12 @@ traced q bs xs ys r n p e =
     record {
       answer = v ∙ sym (pick-by (isNone g) true (gives (verdict q bs)) (refuses g) n);
       charges = p ∙ sym (pick-by (isNone g) true (trace q bs) xs n);
+      losses = o ∙ sym (pick-by (isNone g) true (traceLosses q bs) ls n);
       feasible = λ h. ((λ a. m .0 (cc)), (λ a. said-feasible r (v ∙ ap gives (m .1 a))));
       feasible-charges = λ a. p ∙ model.trace-charges q bs (m .0 (cc));
+      feasible-losses = λ a. o ∙ model.trace-losses q bs (m .0 (cc));
+      balanced = λ h. rw (p, o) (trace-balanced q bs (w .budgets));
+      lost-when-full = λ h. rw (p, o) (trace-full q bs);
       earliest = λ k a. earliest-of q bs ys k (cc) p;
       too-low = λ a. too-low-of q bs ys (cc) p;
     }

@@ -1,4 +1,5 @@
-// The tracer: the charge after each frame of any supplied budgets, below zero included, and the verdict on them.
+// The tracer: the charge after each frame of any supplied budgets, below zero included, what each frame loses, and the
+// verdict on the budgets.
 ghost use Rattle.model.specs.Request.{request};
 ghost use Rattle.tracer.specs.Says.{TraceSays};
 use model::Figures;
@@ -16,17 +17,25 @@ pub enum TraceAnswer {
     Refused(model::Refusal),
 }
 
-// Writes the charge after each frame of the budgets, and gives the verdict. A refusal alters nothing.
-pub fn trace(figures: Figures, harvest: &[u32], budgets: &[u32], charges: &mut [i64]) -> TraceAnswer
+// Writes the charge after each frame of the budgets and what the frame loses, and gives the verdict. A refusal alters
+// nothing.
+pub fn trace(
+    figures: Figures,
+    harvest: &[u32],
+    budgets: &[u32],
+    charges: &mut [i64],
+    losses: &mut [u32],
+) -> TraceAnswer
     ensures { λ r. ⌜ TraceSays (request figures (now (harvest .entry))) (now (budgets .entry)) (now (charges .entry))
-        (now (charges .exit)) r ⌝ }
+        (now (charges .exit)) (now (losses .entry)) (now (losses .exit)) r ⌝ }
 {
     let n = budgets.len();
     let m = charges.len();
-    let f = request::trace_refusal(figures, harvest, n, m);
+    let l = losses.len();
+    let f = request::trace_refusal(figures, harvest, n, m, l);
     if !request::is_none(f) {
         return TraceAnswer::Refused(f);
     }
-    recurrence::fill(figures, harvest, budgets, charges);
+    recurrence::fill(figures, harvest, budgets, charges, losses);
     verdicts::judge(figures.end, charges)
 }

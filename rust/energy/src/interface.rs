@@ -14,13 +14,14 @@ pub trait Energy {
     /// The needed capacity; the capacity of the figures plays no part.
     fn needed(&self, figures: Figures, harvest: &[u32]) -> Result<u64, Refusal>;
 
-    /// Writes the charge after each frame, and judges the budgets.
+    /// Writes the charge after each frame and what each frame loses, and judges the budgets.
     fn trace(
         &self,
         figures: Figures,
         harvest: &[u32],
         budgets: &[u32],
         charges: &mut [i64],
+        losses: &mut [u32],
     ) -> Result<Verdict, Refusal>;
 
     /// The sums of the three house curves.

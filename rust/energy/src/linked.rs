@@ -61,6 +61,7 @@ impl Energy for Linked {
         harvest: &[u32],
         budgets: &[u32],
         charges: &mut [i64],
+        losses: &mut [u32],
     ) -> Result<Verdict, Refusal> {
         // SAFETY: all lists are valid for their lengths, and a mutable list overlaps no other.
         let answer = unsafe {
@@ -72,6 +73,8 @@ impl Energy for Linked {
                 budgets.len(),
                 charges.as_mut_ptr(),
                 charges.len(),
+                losses.as_mut_ptr(),
+                losses.len(),
             )
         };
         accepted(answer.refusal, (answer.verdict, answer.frame)).map(|said| match said {

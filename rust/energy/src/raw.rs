@@ -4,7 +4,7 @@ pub const ENERGY_MAX_FRAMES: u32 = 672;
 pub const ENERGY_MAX_FILE_BYTES: u32 = 2704;
 pub const ENERGY_MAX_CAPACITY: u32 = 1000000000;
 pub const ENERGY_MAX_HARVEST: u32 = 400000;
-pub const ENERGY_LISTING_BYTES: u32 = 17563;
+pub const ENERGY_LISTING_BYTES: u32 = 22267;
 pub const ENERGY_FEASIBLE: u32 = 0;
 pub const ENERGY_END_TOO_LOW: u32 = 1;
 pub const ENERGY_BELOW_ZERO: u32 = 2;
@@ -139,6 +139,8 @@ extern "C" {
         budgets_length: usize,
         charges: *mut i64,
         charges_length: usize,
+        losses: *mut u32,
+        losses_length: usize,
     ) -> EnergyTraceAnswer;
 }
 extern "C" {

@@ -32,6 +32,7 @@ pub enum Case {
         harvest: Vec<u32>,
         budgets: Vec<u32>,
         charges: usize,
+        losses: usize,
     },
     Grade {
         budgets: Vec<u32>,
@@ -141,9 +142,10 @@ impl fmt::Display for Case {
                 harvest,
                 budgets,
                 charges,
+                losses,
             } => write!(
                 f,
-                "trace {} {} {} {charges}",
+                "trace {} {} {} {charges} {losses}",
                 Three(figures),
                 List(harvest),
                 List(budgets)
@@ -282,6 +284,7 @@ impl<'a> Words<'a> {
                 harvest: self.list()?,
                 budgets: self.list()?,
                 charges: self.number()?,
+                losses: self.number()?,
             },
             "grade" => Case::Grade { budgets: self.list()? },
             "run" => Case::Run {
@@ -333,7 +336,7 @@ mod tests {
         for text in [
             "plan 5 2 2 [6 4 0 0 5 5] 6",
             "needed 5 2 2 []",
-            "trace 22 2 2 [6 4] [4 4] 2",
+            "trace 22 2 2 [6 4] [4 4] 2 3",
             "grade [4294967295]",
             "run 5 2 2 [6 4] record 1 3 rest [6 4] 2 part 2",
             "on 6 5 2 2 0 2 0 0 18446744073709551615 record 1 3",

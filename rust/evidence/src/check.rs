@@ -9,6 +9,7 @@ use std::fmt::Debug;
 /// What written lists hold beforehand, so that a byte too many or too few shows.
 const OLD_BUDGET: u32 = 3_333_333_333;
 const OLD_CHARGE: i64 = -9_999;
+const OLD_LOSS: u32 = 2_222_222_222;
 const OLD_BYTE: u8 = 0xa5;
 
 /// A difference in words, or nothing.
@@ -32,7 +33,7 @@ pub fn check(energy: &dyn Energy, case: &Case) -> Checked {
             budgets,
         } => twice(
             energy,
-            &vec![OLD_BUDGET; *budgets],
+            vec![OLD_BUDGET; *budgets],
             |energy, budgets| energy.plan(*figures, harvest, budgets),
             "plan",
         ),
@@ -46,10 +47,11 @@ pub fn check(energy: &dyn Energy, case: &Case) -> Checked {
             harvest,
             budgets,
             charges,
+            losses,
         } => twice(
             energy,
-            &vec![OLD_CHARGE; *charges],
-            |energy, charges| energy.trace(*figures, harvest, budgets, charges),
+            (vec![OLD_CHARGE; *charges], vec![OLD_LOSS; *losses]),
+            |energy, (charges, losses)| energy.trace(*figures, harvest, budgets, charges, losses),
             "trace",
         ),
         Case::Grade { budgets } => same("grade", energy.grade(budgets), Reference.grade(budgets)),
@@ -61,14 +63,14 @@ pub fn check(energy: &dyn Energy, case: &Case) -> Checked {
         Case::On { shift, call } => check_on(energy, *shift, call),
         Case::Read { file, room } => twice(
             energy,
-            &vec![OLD_BUDGET; *room],
+            vec![OLD_BUDGET; *room],
             |energy, harvest| energy.read(file, harvest),
             "read",
         ),
         Case::Write { figures, harvest, room } => check_write(energy, *figures, harvest, *room),
         Case::Listing { file, room } => twice(
             energy,
-            &vec![OLD_BYTE; *room],
+            vec![OLD_BYTE; *room],
             |energy, text| energy.listing(file, text),
             "listing",
         ),
@@ -85,24 +87,24 @@ pub fn expect(energy: &dyn Energy, case: &Case) {
     }
 }
 
-/// The same call on both, each with its own copy of the written list.
-fn twice<T: Clone + PartialEq + Debug, A: PartialEq + Debug>(
+/// The same call on both, each with its own copy of the written list, or of the written lists.
+fn twice<L: Clone + PartialEq + Debug, A: PartialEq + Debug>(
     energy: &dyn Energy,
-    list: &[T],
-    call: impl Fn(&dyn Energy, &mut [T]) -> A,
+    lists: L,
+    call: impl Fn(&dyn Energy, &mut L) -> A,
     what: &str,
 ) -> Checked {
-    let (mut given, mut expected) = (list.to_vec(), list.to_vec());
+    let (mut given, mut expected) = (lists.clone(), lists);
     let answer = call(energy, &mut given);
     same(what, answer, call(&Reference, &mut expected))?;
-    same(&format!("{what}, the list"), given, expected)
+    same(&format!("{what}, what is written"), given, expected)
 }
 
 /// Writes a file, and reads back what was written.
 fn check_write(energy: &dyn Energy, figures: Figures, harvest: &[u32], room: usize) -> Checked {
     twice(
         energy,
-        &vec![OLD_BYTE; room],
+        vec![OLD_BYTE; room],
         |energy, file| energy.write(figures, harvest, file),
         "write",
     )?;
@@ -141,7 +143,7 @@ fn check_on(energy: &dyn Energy, shift: Shift, call: &Call) -> Checked {
         ),
         Call::Rest { harvest, budgets } => twice(
             energy,
-            &old_budgets(*budgets),
+            old_budgets(*budgets),
             |energy, budgets| energy.shift_plan_rest(shift, harvest, budgets),
             "rest",
         ),

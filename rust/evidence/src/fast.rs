@@ -41,8 +41,9 @@ impl Energy for Fast {
         harvest: &[u32],
         budgets: &[u32],
         charges: &mut [i64],
+        losses: &mut [u32],
     ) -> Result<Verdict, Refusal> {
-        Reference.trace(figures, harvest, budgets, charges)
+        Reference.trace(figures, harvest, budgets, charges, losses)
     }
 
     fn grade(&self, budgets: &[u32]) -> Result<[u64; 3], Refusal> {

@@ -354,27 +354,38 @@ fn planning(random: &mut Random) -> Case {
     }
 }
 
-/// Calls that take no planning, at the limit of the frames more often: tracing, grading, writing.
-fn plain(random: &mut Random) -> Case {
+/// A request for calls that take no planning, at the limit of the frames more often.
+fn plain_request(random: &mut Random) -> (Figures, Vec<u32>) {
     let frames = if random.one_in(20) {
         MAX_FRAMES + random.up_to(1) as usize
     } else {
         frames(random)
     };
     let harvest = harvest(frames, random);
-    let figures = figures(&harvest, random);
+    (figures(&harvest, random), harvest)
+}
+
+/// Tracing any budgets.
+fn trace(figures: Figures, harvest: Vec<u32>, random: &mut Random) -> Case {
+    Case::Trace {
+        budgets: budgets(figures, &harvest, random),
+        charges: length(harvest.len(), random),
+        losses: length(harvest.len(), random),
+        figures,
+        harvest,
+    }
+}
+
+/// Calls that take no planning: tracing, grading, writing.
+fn plain(random: &mut Random) -> Case {
+    let (figures, harvest) = plain_request(random);
     match random.up_to(4) {
-        0 | 1 => Case::Trace {
-            budgets: budgets(figures, &harvest, random),
-            charges: length(frames, random),
-            figures,
-            harvest,
-        },
+        0 | 1 => trace(figures, harvest, random),
         2 => Case::Grade {
             budgets: budgets(figures, &harvest, random),
         },
         _ => Case::Write {
-            room: room(file_bytes(frames), random),
+            room: room(file_bytes(harvest.len()), random),
             figures,
             harvest,
         },
@@ -411,6 +422,12 @@ pub fn any_case(random: &mut Random) -> Case {
         80..=92 => read(random),
         _ => listing(random),
     }
+}
+
+/// A trace.
+pub fn any_trace(random: &mut Random) -> Case {
+    let (figures, harvest) = plain_request(random);
+    trace(figures, harvest, random)
 }
 
 /// A whole shift with its calls.

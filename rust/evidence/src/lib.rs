@@ -11,8 +11,16 @@ pub mod random;
 pub mod reference;
 
 use energy::{Energy, Linked};
+use reference::Reference;
 
 /// The implementations under test: the fast Rust one, and the proved library.
 pub fn under_test() -> Vec<Box<dyn Energy>> {
     vec![Box::new(fast::Fast), Box::new(Linked)]
+}
+
+/// Every implementation, the reference too.
+pub fn with_reference() -> Vec<Box<dyn Energy>> {
+    let mut all = under_test();
+    all.push(Box::new(Reference));
+    all
 }

@@ -55,14 +55,18 @@ fn answer(case: &Case) -> Vec<String> {
             harvest,
             budgets,
             charges,
-        } => vec![
-            match Reference.trace(*figures, harvest, budgets, &mut vec![0; *charges]) {
+            losses,
+        } => {
+            let (mut charges, mut losses) = (vec![0; *charges], vec![0; *losses]);
+            let verdict = match Reference.trace(*figures, harvest, budgets, &mut charges, &mut losses) {
                 Ok(Verdict::Feasible) => "feasible".into(),
                 Ok(Verdict::EndTooLow) => "end".into(),
                 Ok(Verdict::BelowZero { .. }) => "below".into(),
                 Err(refusal) => number(refusal),
-            },
-        ],
+            };
+            let loses = losses.iter().any(|&loss| loss > 0);
+            vec![if loses { format!("{verdict} loses") } else { verdict }]
+        }
         Case::Grade { budgets } => vec![Reference.grade(budgets).map_or_else(number, |_| "ok".into())],
         Case::Run { figures, harvest, .. } => {
             vec![Reference
@@ -116,6 +120,9 @@ fn every_answer_is_reached() {
         ("plan", "ok 1 2 7 3 4 5 6 9"),
         ("needed", "ok 1 2 3 6 9"),
         ("trace", "feasible end below 1 2 7 3 4 5 6"),
+        ("trace feasible", "loses"),
+        ("trace end", "loses"),
+        ("trace below", "loses"),
         ("grade", "ok 1 2"),
         ("run", "ok 1 3 4 5 6 9"),
         ("on record", "ok 22 20 6 21"),

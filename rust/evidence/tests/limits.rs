@@ -1,12 +1,12 @@
 //! Cases around the limits, compared with the reference, whose own limits are in `worked.rs`.
 
-use energy::{Energy, Figures, Present, Refusal, Shift, Terms, Totals, LISTING_BYTES};
+use energy::{Energy, Figures, Present, Refusal, Shift, Terms, Totals, Verdict, LISTING_BYTES};
 use evidence::cases::{Call, Case};
 use evidence::check::expect;
 use evidence::reference::limits::{MAX_CAPACITY, MAX_FILE_BYTES, MAX_FRAMES, MAX_HARVEST};
 use evidence::reference::wordfile::file_bytes;
 use evidence::reference::Reference;
-use evidence::under_test;
+use evidence::{under_test, with_reference};
 
 /// The case through every implementation, compared with the reference.
 fn compare(case: Case) {
@@ -62,6 +62,7 @@ fn frames_around_the_limit() {
             harvest: harvest.clone(),
             budgets: vec![u32::MAX; count],
             charges: count,
+            losses: count,
         });
         compare(Case::Grade {
             budgets: vec![u32::MAX; count],
@@ -170,13 +171,52 @@ fn the_needed_capacity_may_exceed_the_limit_on_capacities() {
 
 #[test]
 fn charges_far_below_zero() {
-    let charges = MAX_FRAMES;
     compare(Case::Trace {
         figures: figures(MAX_CAPACITY, 0, 0),
-        harvest: vec![0; charges],
-        budgets: vec![u32::MAX; charges],
-        charges,
+        harvest: vec![0; MAX_FRAMES],
+        budgets: vec![u32::MAX; MAX_FRAMES],
+        charges: MAX_FRAMES,
+        losses: MAX_FRAMES,
     });
+}
+
+#[test]
+fn the_largest_loss_is_the_largest_harvest() {
+    let (harvest, budgets) = ([MAX_HARVEST; MAX_FRAMES], [0; MAX_FRAMES]);
+    for capacity in [0, MAX_CAPACITY] {
+        let full = figures(capacity, capacity, capacity);
+        for energy in with_reference() {
+            let (mut charges, mut losses) = ([0; MAX_FRAMES], [0; MAX_FRAMES]);
+            let verdict = energy.trace(full, &harvest, &budgets, &mut charges, &mut losses);
+            assert_eq!(verdict, Ok(Verdict::Feasible), "{}", energy.name());
+            assert_eq!(charges, [i64::from(capacity); MAX_FRAMES], "{}", energy.name());
+            assert_eq!(losses, [MAX_HARVEST; MAX_FRAMES], "{}", energy.name());
+        }
+    }
+}
+
+#[test]
+fn each_list_of_a_trace_has_an_entry_for_each_frame() {
+    for lengths in [
+        [2, 3, 3],
+        [3, 2, 3],
+        [3, 3, 2],
+        [4, 3, 3],
+        [3, 4, 3],
+        [3, 3, 4],
+        [3, 3, 0],
+    ] {
+        let [budgets, charges, losses] = lengths;
+        for capacity in [9, MAX_CAPACITY + 1] {
+            compare(Case::Trace {
+                figures: figures(capacity, 3, 3),
+                harvest: vec![7; 3],
+                budgets: vec![0; budgets],
+                charges,
+                losses,
+            });
+        }
+    }
 }
 
 #[test]
@@ -198,13 +238,14 @@ fn files_around_the_largest_size() {
     }
 }
 
-/// The most energy is the largest capacity and the largest harvest in every frame, and no unit earns more than 24.
+/// The most energy is the largest capacity and the largest harvest in every frame, no frame loses more than its harvest,
+/// and no unit earns more than 24.
 #[test]
 fn the_room_of_a_listing_is_that_of_lines_with_the_largest_figures() {
     let energy = u64::from(MAX_CAPACITY) + u64::from(MAX_HARVEST) * MAX_FRAMES as u64;
     let worth = 24 * energy;
     let first = format!("frames {MAX_FRAMES} capacity {MAX_CAPACITY} needed {energy}\n");
-    let frame = format!("{MAX_FRAMES} {energy} {MAX_CAPACITY}\n");
+    let frame = format!("{MAX_FRAMES} {energy} {MAX_CAPACITY} {MAX_HARVEST}\n");
     let last = format!("worth {worth} {worth} {worth}\n");
     assert_eq!(LISTING_BYTES, first.len() + MAX_FRAMES * frame.len() + last.len());
 }

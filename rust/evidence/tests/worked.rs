@@ -1,24 +1,16 @@
-//! Document 01's cases worked by hand, its limits as document 02 has them, through every implementation.
+//! Document 01's cases worked by hand, its limits and losses as document 02 has them, through every implementation.
 
 use energy::{Energy, Figures, Present, Refusal, Rest, Shift, Terms, Totals, Verdict, LISTING_BYTES};
 use evidence::reference::limits::MAX_FILE_BYTES;
-use evidence::reference::Reference;
-use evidence::under_test;
+use evidence::with_reference;
 
 /// The harvests of the listing.
 const LISTING: [u32; 6] = [6, 4, 0, 0, 5, 5];
 
 /// What the plan program prints for the listing's request.
 const LISTED: &str = "frames 6 capacity 5 needed 6\n\
-    1 4 4\n2 3 5\n3 3 2\n4 2 0\n5 4 1\n6 4 2\n\
+    1 4 4 0\n2 3 5 0\n3 3 2 0\n4 2 0 0\n5 4 1 0\n6 4 2 0\n\
     worth 320 480 100\n";
-
-/// Every implementation, the reference too.
-fn all() -> Vec<Box<dyn Energy>> {
-    let mut all = under_test();
-    all.push(Box::new(Reference));
-    all
-}
 
 fn figures(capacity: u32, start: u32, end: u32) -> Figures {
     Figures { capacity, start, end }
@@ -39,7 +31,7 @@ fn words(file: &[u8]) -> Vec<u32> {
 
 #[test]
 fn plans() {
-    for energy in all() {
+    for energy in with_reference() {
         let plan = |capacity, start, end, harvest: &[u32]| plan(&*energy, figures(capacity, start, end), harvest);
         assert_eq!(plan(5, 2, 2, &LISTING), Ok(vec![4, 3, 3, 2, 4, 4]), "{}", energy.name());
         assert_eq!(plan(6, 2, 2, &LISTING), Ok(vec![3, 3, 3, 3, 4, 4]), "{}", energy.name());
@@ -59,7 +51,7 @@ fn plans() {
 
 #[test]
 fn needed_capacities() {
-    for energy in all() {
+    for energy in with_reference() {
         let needed = |capacity, start, end, harvest: &[u32]| energy.needed(figures(capacity, start, end), harvest);
         assert_eq!(needed(5, 2, 2, &LISTING), Ok(6), "{}", energy.name());
         assert_eq!(needed(9, 0, 0, &[1, 2]), Ok(0), "{}", energy.name());
@@ -69,17 +61,30 @@ fn needed_capacities() {
 
 #[test]
 fn a_supplied_list_below_zero() {
-    for energy in all() {
-        let mut charges = [0; 6];
-        let verdict = energy.trace(figures(22, 2, 2), &LISTING, &[4, 4, 4, 4, 2, 2], &mut charges);
+    for energy in with_reference() {
+        let (mut charges, mut losses) = ([0; 6], [9; 6]);
+        let budgets = [4, 4, 4, 4, 2, 2];
+        let verdict = energy.trace(figures(22, 2, 2), &LISTING, &budgets, &mut charges, &mut losses);
         assert_eq!(verdict, Ok(Verdict::BelowZero { frame: 4 }), "{}", energy.name());
         assert_eq!(charges, [4, 4, 0, -4, -1, 2], "{}", energy.name());
+        assert_eq!(losses, [0; 6], "{}", energy.name());
+    }
+}
+
+#[test]
+fn a_supplied_list_of_zeros_loses_what_the_store_cannot_take() {
+    for energy in with_reference() {
+        let (mut charges, mut losses) = ([0; 6], [9; 6]);
+        let verdict = energy.trace(figures(5, 2, 2), &LISTING, &[0; 6], &mut charges, &mut losses);
+        assert_eq!(verdict, Ok(Verdict::Feasible), "{}", energy.name());
+        assert_eq!(charges, [5; 6], "{}", energy.name());
+        assert_eq!(losses, [3, 4, 0, 0, 5, 5], "{}", energy.name());
     }
 }
 
 #[test]
 fn recordings() {
-    for energy in all() {
+    for energy in with_reference() {
         let shift = energy.shift_start(figures(5, 4, 0), &[0]).expect("a valid request");
         let record = |used| {
             energy
@@ -100,7 +105,7 @@ fn recordings() {
 
 #[test]
 fn the_rest_after_a_recording() {
-    for energy in all() {
+    for energy in with_reference() {
         let shift = energy.shift_start(figures(5, 2, 2), &LISTING).expect("a valid request");
         let shift = energy.shift_record(shift, 1, 3).expect("a frame to record");
         let expected = Shift {
@@ -140,7 +145,7 @@ fn the_rest_after_a_recording() {
 
 #[test]
 fn words_of_a_file() {
-    for energy in all() {
+    for energy in with_reference() {
         let mut file = [0xee; 28];
         assert_eq!(
             energy.write(figures(9, 0, 0), &[1, 2], &mut file),
@@ -155,7 +160,7 @@ fn words_of_a_file() {
 
 #[test]
 fn the_listing() {
-    for energy in all() {
+    for energy in with_reference() {
         let mut file = [0; 40];
         assert_eq!(
             energy.write(figures(5, 2, 2), &LISTING, &mut file),
@@ -174,7 +179,7 @@ fn the_listing() {
 /// The limits, of frames and bytes as document 02 has them: each passes, and one more is refused.
 #[test]
 fn the_limits() {
-    for energy in all() {
+    for energy in with_reference() {
         let plan = |harvest: &[u32]| plan(&*energy, figures(9, 0, 0), harvest).map(|budgets| budgets.len());
         assert_eq!(plan(&[400_000]), Ok(1), "{}", energy.name());
         assert_eq!(

@@ -24,9 +24,9 @@ A request as text:
   harvest          # from here on a line for each frame
   6
   4
-A table may have further columns: frame, time, charge, use, budget. Between its cells stand blanks, or tabs, commas or
-semicolons as a spreadsheet saves them; numbers are whole, without a thousands separator. A table alone is read with
---capacity, --start and --end. As a file, - is standard input or output.
+A table may have further columns: frame, time, charge, use, loss, budget. Between its cells stand blanks, or tabs,
+commas or semicolons as a spreadsheet saves them; numbers are whole, without a thousands separator. A table alone is
+read with --capacity, --start and --end. As a file, - is standard input or output.
 
 Exit status: 0 done; 1 a numbered refusal; 2 bad usage, or a text that is no request or journal; 3 reading or
 writing failed. An output file is written whole or not at all.";
@@ -39,7 +39,7 @@ Example:
 
 #[derive(Subcommand, Debug)]
 pub enum Command {
-    /// Print the plan of a request: the budget of each frame and the charge after it
+    /// Print the plan of a request: the budget of each frame, the charge after it and what it loses
     Plan(PlanArguments),
     /// Print the least capacity that serves every curve as unlimited storage would, whatever the request's capacity
     #[command(after_help = "Example:\n  gomzhiva needed examples/day.txt")]
@@ -47,7 +47,7 @@ pub enum Command {
         #[command(flatten)]
         request: RequestArguments,
     },
-    /// Print the charges that supplied budgets lead to, and whether they are feasible
+    /// Print the charges that supplied budgets lead to, what each frame loses, and whether they are feasible
     Trace(TraceArguments),
     /// Print what budgets earn by the three house curves
     #[command(after_help = "Example:\n  echo 4 3 3 2 4 4 | gomzhiva grade -")]
@@ -166,7 +166,7 @@ pub enum ShiftCommand {
         #[command(flatten)]
         table: TableArguments,
     },
-    /// Print the frames recorded, the charge and the totals
+    /// Print the frames recorded with what each lost, the charge and the totals
     #[command(after_help = "Example:\n  gomzhiva shift show --journal shift.journal")]
     Show {
         #[command(flatten)]

@@ -69,6 +69,14 @@ pub fn sum(list: &[u32]) -> u64 {
     list.iter().map(|&n| u64::from(n)).sum()
 }
 
+/// What is lost in all, in words.
+pub fn lost(losses: &[u32]) -> String {
+    match sum(losses) {
+        0 => "0 Wh lost".into(),
+        lost => format!("{lost} Wh lost that the full battery could not take"),
+    }
+}
+
 /// The mean of a list, to a tenth.
 pub fn mean(list: &[u32]) -> String {
     format!("{:.1}", sum(list) as f64 / list.len().max(1) as f64)
@@ -118,6 +126,8 @@ mod tests {
         assert_eq!(sum(&[u32::MAX, 1]), 1 << 32);
         assert_eq!(mean(&[1, 2, 2]), "1.7");
         assert_eq!(mean(&[]), "0.0");
+        assert_eq!(lost(&[0, 0]), "0 Wh lost");
+        assert_eq!(lost(&[3, 4]), "7 Wh lost that the full battery could not take");
         assert_eq!(counted(1, "frame") + &counted(0, "frame"), "1 frame0 frames");
     }
 }

@@ -2,25 +2,42 @@
 
 mod common;
 
-use common::{check, day_words, request_text, Folder, Ran, DAY};
+use common::{budget_table, check, day_words, request_text, Folder, Ran, DAY};
 use energy::{Energy, Figures, LISTING_BYTES, MAX_CAPACITY, MAX_FILE_BYTES, MAX_FRAMES, MAX_HARVEST};
 use evidence::reference::Reference;
 use proptest::prelude::*;
 use std::fs;
 
 const TABLE: &str = "\
-frame  harvest  budget  charge
-    1        6       4       4
-    2        4       3       5
-    3        0       3       2
-    4        0       2       0
-    5        5       4       1
-    6        5       4       2
+frame  harvest  budget  charge  loss
+    1        6       4       4     0
+    2        4       3       5     0
+    3        0       3       2     0
+    4        0       2       0     0
+    5        5       4       1     0
+    6        5       4       2     0
 ";
 
-const LISTING: &str = "frames 6 capacity 5 needed 6\n1 4 4\n2 3 5\n3 3 2\n4 2 0\n5 4 1\n6 4 2\nworth 320 480 100\n";
+const LISTING: &str = "\
+frames 6 capacity 5 needed 6
+1 4 4 0
+2 3 5 0
+3 3 2 0
+4 2 0 0
+5 4 1 0
+6 4 2 0
+worth 320 480 100
+";
 
-const CSV: &str = "frame,harvest,budget,charge\n1,6,4,4\n2,4,3,5\n3,0,3,2\n4,0,2,0\n5,5,4,1\n6,5,4,2\n";
+const CSV: &str = "\
+frame,harvest,budget,charge,loss
+1,6,4,4,0
+2,4,3,5,0
+3,0,3,2,0
+4,0,2,0,0
+5,5,4,1,0
+6,5,4,2,0
+";
 
 /// The day as text, as a table alone, and as a word file.
 fn folder_of_the_day() -> Folder {
@@ -41,7 +58,7 @@ fn assert_done(ran: &Ran, out: &str) {
 fn a_plan_is_a_table_with_a_summary_in_words() {
     let folder = folder_of_the_day();
     let words = "
-6 frames: 20 Wh harvested, 20 Wh budgeted (mean 3.3, most 4).
+6 frames: 20 Wh harvested, 20 Wh budgeted (mean 3.3, most 4), 0 Wh lost.
 The charge goes from 2 to 2 Wh, and is at most 5 Wh after a frame, of a capacity of 5 Wh.
 A capacity of 6 Wh would serve every curve as well as unlimited storage.
 Worth 320 480 100 by house curves 0, 1 and 2.
@@ -69,10 +86,13 @@ fn a_table_for_a_spreadsheet_is_read_again() {
     let folder = folder_of_the_day();
     let table = folder.run(&["plan", "--csv", "day.txt"]);
     assert_done(&table, CSV);
-    let traced = folder.run_with(&["trace", "--csv", "day.txt", "-"], &table.out);
-    assert_done(&traced, CSV);
-    let planned = folder.run_with(&[&["plan", "--csv", "-"], &FIGURES[..]].concat(), &table.out);
-    assert_done(&planned, CSV);
+    let without_losses = CSV.replace(",loss", "").replace(",0\n", "\n");
+    for table in [CSV, &without_losses] {
+        let traced = folder.run_with(&["trace", "--csv", "day.txt", "-"], table.as_bytes());
+        assert_done(&traced, CSV);
+        let planned = folder.run_with(&[&["plan", "--csv", "-"], &FIGURES[..]].concat(), table.as_bytes());
+        assert_done(&planned, CSV);
+    }
 }
 
 #[test]
@@ -109,39 +129,55 @@ fn the_needed_capacity() {
 }
 
 #[test]
-fn a_trace_has_its_verdict() {
+fn a_trace_has_its_losses_and_its_verdict() {
     let folder = folder_of_the_day();
-    let trace = |budgets: &str, capacity: &str| {
+    for (budgets, capacity, charges, losses, words) in [
+        (
+            "4 4 4 4 2 2",
+            "22",
+            "4 4 0 -4 -1 2",
+            "0 0 0 0 0 0",
+            "6 frames: 20 Wh harvested, 20 Wh budgeted, 0 Wh lost.\n\
+             Not feasible: the charge after frame 4 is below zero.\n",
+        ),
+        (
+            "4 3 3 2 4 4",
+            "5",
+            "4 5 2 0 1 2",
+            "0 0 0 0 0 0",
+            "6 frames: 20 Wh harvested, 20 Wh budgeted, 0 Wh lost.\n\
+             Feasible: the charge ends at 2 Wh, and 2 Wh were asked for.\n",
+        ),
+        (
+            "budget\n4\n3\n3\n2\n4\n5\n",
+            "5",
+            "4 5 2 0 1 1",
+            "0 0 0 0 0 0",
+            "6 frames: 20 Wh harvested, 21 Wh budgeted, 0 Wh lost.\n\
+             Not feasible: the charge ends at 1 Wh, below the end charge of 2 Wh.\n",
+        ),
+        (
+            "0 0 0 0 0 0",
+            "5",
+            "5 5 5 5 5 5",
+            "3 4 0 0 5 5",
+            "6 frames: 20 Wh harvested, 0 Wh budgeted, 17 Wh lost that the full battery could not take.\n\
+             Feasible: the charge ends at 5 Wh, and 2 Wh were asked for.\n",
+        ),
+    ] {
         let ran = folder.run_with(&["trace", "day.txt", "-", "--capacity", capacity], budgets.as_bytes());
         assert_eq!((ran.status, ran.err.as_str()), (Some(0), ""));
         let text = ran.text();
-        let charges: Vec<String> = text
-            .lines()
-            .skip(1)
-            .take(6)
-            .map(|row| row.split_whitespace().last().expect("a charge").to_string())
-            .collect();
-        (charges.join(" "), text.lines().last().expect("a verdict").to_string())
-    };
-    let charges = |charges: &str, verdict: &str| (charges.to_string(), verdict.to_string());
-    assert_eq!(
-        trace("4 4 4 4 2 2", "22"),
-        charges("4 4 0 -4 -1 2", "Not feasible: the charge after frame 4 is below zero.")
-    );
-    assert_eq!(
-        trace("4 3 3 2 4 4", "5"),
-        charges(
-            "4 5 2 0 1 2",
-            "Feasible: the charge ends at 2 Wh, and 2 Wh were asked for."
-        )
-    );
-    assert_eq!(
-        trace("budget\n4\n3\n3\n2\n4\n5\n", "5"),
-        charges(
-            "4 5 2 0 1 1",
-            "Not feasible: the charge ends at 1 Wh, below the end charge of 2 Wh."
-        )
-    );
+        let (table, said) = text.split_once("\n\n").expect("a table and words");
+        let column = |place: usize| {
+            let cells = table.lines().skip(1).map(|row| row.split_whitespace().nth(place));
+            cells
+                .collect::<Option<Vec<&str>>>()
+                .expect("a cell in each row")
+                .join(" ")
+        };
+        assert_eq!((column(3).as_str(), column(4).as_str(), said), (charges, losses, words));
+    }
 }
 
 #[test]
@@ -474,12 +510,15 @@ fn pictures_are_drawn_into_files_and_on_standard_output() {
     ] {
         assert!(text.contains(name), "{name}");
     }
-    let trace = folder.run_with(&["trace", "day.txt", "-", "--chart", "trace.svg"], b"4 4 4 4 2 2");
-    assert_eq!(trace.status, Some(0));
-    assert!(whole(&folder.read("trace.svg")));
-    assert!(String::from_utf8(folder.read("trace.svg"))
-        .unwrap()
-        .contains("overdrawn"));
+    for (budgets, name) in [
+        ("4 4 4 4 2 2", "overdrawn"),
+        ("0 0 0 0 0 0", "lost harvest: the battery is full (17 Wh in all)"),
+    ] {
+        let arguments = ["trace", "day.txt", "-", "--chart", "trace.svg"];
+        assert_eq!(folder.run_with(&arguments, budgets.as_bytes()).status, Some(0));
+        assert!(whole(&folder.read("trace.svg")));
+        assert!(String::from_utf8(folder.read("trace.svg")).unwrap().contains(name));
+    }
 }
 
 /// Any request of up to 40 frames, the refused ones among them.
@@ -492,7 +531,7 @@ fn any_request() -> impl Strategy<Value = (Figures, Vec<u32>)> {
 /// The program shows what the independent implementation says, refusals with P included.
 #[test]
 fn commands_show_the_reference() {
-    check(100, (any_request(), 0..3u32), |((figures, harvest), change)| {
+    check(100, (any_request(), 0..5u32), |((figures, harvest), change)| {
         let folder = Folder::new();
         folder.write(
             "request",
@@ -506,7 +545,7 @@ fn commands_show_the_reference() {
         let plan = folder.run(&["plan", "--csv", "request"]);
         prop_assert_eq!(plan.status, Some(i32::from(planned.is_err())));
         if planned.is_ok() {
-            prop_assert_eq!(plan.text(), table(figures, &harvest, &budgets));
+            prop_assert_eq!(plan.text(), budget_table(0, figures, &harvest, &budgets));
         }
 
         let mut room = vec![0; MAX_FILE_BYTES];
@@ -521,16 +560,16 @@ fn commands_show_the_reference() {
         let shown = lines(needed.map(|needed| format!("needed capacity {needed} Wh\n")));
         prop_assert_eq!(folder.run(&["needed", "request"]).text(), shown);
 
-        // A plan with one budget changed is often no longer feasible.
+        // A plan with one budget changed is often no longer feasible, or loses.
         if let Some(first) = budgets.first_mut() {
-            *first += change;
+            *first = (*first + change).saturating_sub(2);
         }
         folder.write("budgets", format!("budget\n{}", common::column(&budgets)));
-        let traced = Reference.trace(figures, &harvest, &budgets, &mut vec![0; frames]);
+        let traced = Reference.trace(figures, &harvest, &budgets, &mut vec![0; frames], &mut vec![0; frames]);
         let trace = folder.run(&["trace", "--csv", "request", "budgets"]);
         prop_assert_eq!(trace.status, Some(i32::from(traced.is_err())));
         if let Ok(verdict) = traced {
-            prop_assert_eq!(trace.text(), table(figures, &harvest, &budgets));
+            prop_assert_eq!(trace.text(), budget_table(0, figures, &harvest, &budgets));
             let words = folder.run(&["trace", "request", "budgets"]).text();
             prop_assert_eq!(words.contains("\nFeasible"), verdict == energy::Verdict::Feasible);
         }
@@ -541,17 +580,4 @@ fn commands_show_the_reference() {
         prop_assert_eq!(folder.run(&["grade", "budgets"]).text(), lines(worth));
         Ok(())
     });
-}
-
-/// The table of budgets as CSV, with the reference's charges.
-fn table(figures: Figures, harvest: &[u32], budgets: &[u32]) -> String {
-    let mut charges = vec![0; harvest.len()];
-    Reference
-        .trace(figures, harvest, budgets, &mut charges)
-        .expect("budgets that can be traced");
-    let mut text = "frame,harvest,budget,charge\n".to_string();
-    for (i, ((harvest, budget), charge)) in harvest.iter().zip(budgets).zip(&charges).enumerate() {
-        text += &format!("{},{harvest},{budget},{charge}\n", i + 1);
-    }
-    text
 }

@@ -97,8 +97,8 @@ fn a_call_that_is_done_is_told_to_be_done() {
     let start = redirected(&folder, &["shift", "start", "day.txt", "--journal", "new"], ">&-");
     assert_failed(&start, "standard output: Bad file descriptor; started all the same");
     let shown = |journal| folder.run(&["shift", "show", "--csv", "--journal", journal]).text();
-    assert_eq!(shown("journal"), "frame,harvest,use,charge\n1,1,3,0\n");
-    assert_eq!(shown("new"), "frame,harvest,use,charge\n");
+    assert_eq!(shown("journal"), "frame,harvest,use,charge,loss\n1,1,3,0,0\n");
+    assert_eq!(shown("new"), "frame,harvest,use,charge,loss\n");
 }
 
 #[test]

@@ -57,11 +57,11 @@ struct Dress {
 }
 
 fn dresses() -> impl Strategy<Value = Dress> {
-    let columns = vec!["harvest", "budget", "frame", "time", "charge", "use"];
+    let columns = vec!["harvest", "budget", "frame", "time", "charge", "use", "loss"];
     let separators = vec![" ", "\t", "   ", ",", ";", " , ", "; "];
     (
         Just(vec![0, 1, 2]).prop_shuffle(),
-        (Just(columns).prop_shuffle(), 1..=6usize),
+        (Just(columns).prop_shuffle(), 1..=7usize),
         select(separators),
         select(vec!["\n", "\r\n", "\r"]),
         any::<[bool; 5]>(),

@@ -2,8 +2,8 @@
 
 mod common;
 
-use common::{request_text, standing, Folder};
-use energy::{Figures, Present};
+use common::{recorded_row, request_text, standing, Folder};
+use energy::Figures;
 use evidence::random::{seed, Random};
 use evidence::reference::logbook::Logbook;
 use std::path::Path;
@@ -50,7 +50,7 @@ impl<'a> Killed<'a> {
             folder,
             faults,
             logbook: Logbook::open(figures, &forecast),
-            rows: "frame,harvest,use,charge\n".to_string(),
+            rows: "frame,harvest,use,charge,loss\n".to_string(),
             lasts: Duration::from_millis(3),
         }
     }
@@ -101,11 +101,11 @@ impl<'a> Killed<'a> {
 
     /// What the logbook expects of an answered recording, which it then has.
     fn enter(&mut self, harvest: u32, used: u32) -> String {
+        let before = self.logbook.record_now();
         self.logbook.record(harvest, used).expect("figures that are accepted");
         let shift = self.logbook.record_now();
-        let Present { recorded, charge, .. } = shift.now;
-        self.rows += &format!("{recorded},{harvest},{used},{charge}\n");
-        format!("Recorded frame {recorded}. {}", standing(&shift))
+        self.rows += &recorded_row(&before, &shift);
+        format!("Recorded frame {}. {}", shift.now.recorded, standing(&shift))
     }
 
     /// Opens the journal again after a recording that was not answered: it is there, or it is not.

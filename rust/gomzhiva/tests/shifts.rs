@@ -2,8 +2,8 @@
 
 mod common;
 
-use common::{column, request_text, standing, Folder, Ran, DAY};
-use energy::{Energy, Figures, Present, Rest, Shift, MAX_FRAMES};
+use common::{budget_table, column, recorded_row, request_text, standing, Folder, Ran, DAY};
+use energy::{Energy, Figures, Rest, Shift, MAX_FRAMES};
 use evidence::random::{seed, Random};
 use evidence::reference::logbook::Logbook;
 use evidence::reference::Reference;
@@ -41,7 +41,7 @@ fn folder_of_a_shift() -> Folder {
     folder
 }
 
-const SHOWN: &str = "frame,harvest,use,charge\n1,1,3,0\n2,14,2,5\n";
+const SHOWN: &str = "frame,harvest,use,charge,loss\n1,1,3,0,0\n2,14,2,5,7\n";
 
 fn done(out: &str) -> (Option<i32>, String, String) {
     (Some(0), out.to_string(), String::new())
@@ -55,19 +55,23 @@ fn told(ran: Ran) -> (Option<i32>, String, String) {
 fn a_shift_from_its_start_to_its_end() {
     let folder = folder_of_a_shift();
     let plan = "\
-frame  harvest  budget  charge
-    3        0       3       2
-    4        0       2       0
-    5        5       4       1
-    6        5       4       2
+frame  harvest  budget  charge  loss
+    3        0       3       2     0
+    4        0       2       0     0
+    5        5       4       1     0
+    6        5       4       2     0
 
-4 frames left: 10 Wh expected, 13 Wh budgeted (mean 3.2). The charge goes from 5 to 2 Wh.
+4 frames left: 10 Wh expected, 13 Wh budgeted (mean 3.2), 0 Wh lost. The charge goes from 5 to 2 Wh.
 ";
     assert_eq!(told(folder.run(&PLAN)), done(plan));
-    let csv = "frame,harvest,budget,charge\n3,0,3,2\n4,0,2,0\n5,5,4,1\n6,5,4,2\n";
+    let csv = "frame,harvest,budget,charge,loss\n3,0,3,2,0\n4,0,2,0,0\n5,5,4,1,0\n6,5,4,2,0\n";
     assert_eq!(told(folder.run(&[&PLAN[..], &["--csv"]].concat())), done(csv));
     let standing = "2 of 6 frames recorded; charge 5 Wh of a capacity of 5 Wh; 15 Wh harvested, 5 Wh used, 7 Wh lost.";
-    let table = "frame  harvest  use  charge\n    1        1    3       0\n    2       14    2       5\n";
+    let table = "\
+frame  harvest  use  charge  loss
+    1        1    3       0     0
+    2       14    2       5     7
+";
     let shown = folder.run(&["shift", "show", "--journal", "journal"]);
     assert_eq!(told(shown), done(&format!("{table}\n{standing}\n")));
     assert_eq!(told(folder.run(&SHOW)), done(SHOWN));
@@ -94,7 +98,7 @@ fn a_rest_that_is_short_says_by_how_much() {
     assert_eq!(
         told(short),
         done(
-            "frame  harvest  budget  charge\n    2        1       0       6\n\n\
+            "frame  harvest  budget  charge  loss\n    2        1       0       6     0\n\n\
              Short: with nothing used in the 1 frame left, the end charge of 8 Wh is still missed by 2 Wh, so every budget is 0.\n"
         )
     );
@@ -158,6 +162,7 @@ fn a_picture_shows_what_happened_and_what_is_planned() {
         "Shift: 2 of 6 frames recorded",
         "recorded up to frame 2, planned from frame 3",
         "now",
+        "lost harvest: the battery is full (7 Wh in all)",
     ] {
         assert!(text.contains(name), "{name}");
     }
@@ -170,7 +175,7 @@ fn calls(folder: &Folder) -> Vec<String> {
     text.lines().map(call).collect()
 }
 
-/// The plan of the rest as a table, from the logbook's budgets and the reference's charges.
+/// The plan of the rest as a table, from the logbook's budgets.
 fn rest_table(shift: &Shift, forecast: &[u32], budgets: &[u32]) -> String {
     let next = shift.now.recorded as usize;
     let figures = Figures {
@@ -178,14 +183,7 @@ fn rest_table(shift: &Shift, forecast: &[u32], budgets: &[u32]) -> String {
         start: shift.now.charge,
         end: shift.terms.end,
     };
-    let mut charges = vec![0; forecast.len() - next];
-    let traced = Reference.trace(figures, &forecast[next..], &budgets[next..], &mut charges);
-    traced.expect("budgets that can be traced");
-    let mut text = "frame,harvest,budget,charge\n".to_string();
-    for (i, charge) in (next..).zip(charges) {
-        text += &format!("{},{},{},{charge}\n", i + 1, forecast[i], budgets[i]);
-    }
-    text
+    budget_table(shift.now.recorded, figures, &forecast[next..], &budgets[next..])
 }
 
 /// A shift's calls, refused ones among them: each is answered as the logbook says, and the journal holds the accepted ones.
@@ -218,28 +216,24 @@ fn assert_logbooks(random: &mut Random) -> u32 {
         "start capacity {capacity} start {} end {} harvest {line}",
         figures.start, figures.end
     )];
-    let mut rows = "frame,harvest,use,charge\n".to_string();
+    let mut rows = "frame,harvest,use,charge,loss\n".to_string();
     for _ in 0..2 * frames + 2 {
         let harvest = if random.one_in(8) {
             400_001
         } else {
             random.up_to_u32(12)
         };
-        let used = random.up_to_u32(logbook.record_now().now.charge + harvest.min(12) + 2);
+        let shift_before = logbook.record_now();
+        let used = random.up_to_u32(shift_before.now.charge + harvest.min(12) + 2);
         let before = folder.read("journal");
         let recorded = record(&folder, harvest, used);
         match logbook.record(harvest, used) {
             Ok(()) => {
                 let shift = logbook.record_now();
-                let Present {
-                    recorded: frame,
-                    charge,
-                    ..
-                } = shift.now;
-                let answer = format!("Recorded frame {frame}. {}", standing(&shift));
+                let answer = format!("Recorded frame {}. {}", shift.now.recorded, standing(&shift));
                 assert_eq!(told(recorded), done(&answer));
                 accepted.push(format!("record {harvest} {used}"));
-                rows += &format!("{frame},{harvest},{used},{charge}\n");
+                rows += &recorded_row(&shift_before, &shift);
             }
             Err(refusal) => {
                 assert_eq!((recorded.status, recorded.text()), (Some(1), format!("{refusal}\n")));
@@ -327,7 +321,7 @@ fn a_torn_last_line_is_left_out_with_a_notice() {
             } else {
                 ""
             };
-            let rows = "frame,harvest,use,charge\n1,1,3,0\n".to_string();
+            let rows = "frame,harvest,use,charge,loss\n1,1,3,0,0\n".to_string();
             assert_eq!(told(folder.run(&SHOW)), (Some(0), rows, notice.to_string()));
             assert_eq!(folder.read("journal"), torn, "looking changes nothing");
             let again = record(&folder, 14, 2);
@@ -352,7 +346,7 @@ fn a_last_line_that_lacks_only_its_end_counts() {
     }
     let first = whole.iter().position(|&b| b == b'\n').expect("a line");
     folder.write("journal", &whole[..first]);
-    assert_eq!(told(folder.run(&SHOW)), done("frame,harvest,use,charge\n"));
+    assert_eq!(told(folder.run(&SHOW)), done("frame,harvest,use,charge,loss\n"));
     assert_eq!(record(&folder, 1, 3).status, Some(0));
     assert_eq!(calls(&folder).len(), 2);
 }

@@ -13,11 +13,12 @@ fn text_of(energy: &dyn Energy, file: &[u8]) -> Result<String, Refusal> {
     energy.plan(figures, &harvest, &mut budgets)?;
     let needed = energy.needed(figures, &harvest)?;
     let mut charges = vec![0; harvest.len()];
-    energy.trace(figures, &harvest, &budgets, &mut charges)?;
+    let mut losses = vec![0; harvest.len()];
+    energy.trace(figures, &harvest, &budgets, &mut charges, &mut losses)?;
     let [a, b, c] = energy.grade(&budgets)?;
     let mut text = format!("frames {} capacity {} needed {needed}\n", read.frames, figures.capacity);
-    for (i, (budget, charge)) in budgets.iter().zip(&charges).enumerate() {
-        text += &format!("{} {budget} {charge}\n", i + 1);
+    for (i, ((budget, charge), loss)) in budgets.iter().zip(&charges).zip(&losses).enumerate() {
+        text += &format!("{} {budget} {charge} {loss}\n", i + 1);
     }
     text += &format!("worth {a} {b} {c}\n");
     Ok(text)

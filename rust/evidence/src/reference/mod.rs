@@ -41,9 +41,10 @@ impl Energy for Reference {
         harvest: &[u32],
         budgets: &[u32],
         charges: &mut [i64],
+        losses: &mut [u32],
     ) -> Result<Verdict, Refusal> {
-        refusals::trace(figures, harvest, budgets.len(), charges.len())?;
-        Ok(tracer::trace(figures, harvest, budgets, charges))
+        refusals::trace(figures, harvest, budgets.len(), charges.len(), losses.len())?;
+        Ok(tracer::trace(figures, harvest, budgets, charges, losses))
     }
 
     fn grade(&self, budgets: &[u32]) -> Result<[u64; 3], Refusal> {

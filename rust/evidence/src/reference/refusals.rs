@@ -87,10 +87,11 @@ pub fn needed(request: Figures, harvest: &[u32]) -> Checked {
 }
 
 /// Tracing: 1, 2, 7, 3, 4, 5, 6.
-pub fn trace(request: Figures, harvest: &[u32], budgets: usize, charges: usize) -> Checked {
+pub fn trace(request: Figures, harvest: &[u32], budgets: usize, charges: usize, losses: usize) -> Checked {
     frames(harvest.len())?;
     same_length(budgets, harvest.len())?;
     same_length(charges, harvest.len())?;
+    same_length(losses, harvest.len())?;
     figures(request, harvest)
 }
 

@@ -1,12 +1,14 @@
-//! The tracer: charges of any budgets, below zero included, and the verdict.
+//! The tracer: charges of any budgets, below zero included, what each frame loses, and the verdict.
 
 use super::charge::walk;
 use energy::{Figures, Verdict};
 
-/// Writes the charge after each frame, and judges the budgets. All lists are equally long.
-pub fn trace(figures: Figures, harvest: &[u32], budgets: &[u32], charges: &mut [i64]) -> Verdict {
-    for (place, end) in charges.iter_mut().zip(walk(figures.into(), harvest, budgets)) {
-        *place = end.charge;
+/// Writes the charge after each frame and what it loses, and judges the budgets. All lists are equally long.
+pub fn trace(figures: Figures, harvest: &[u32], budgets: &[u32], charges: &mut [i64], losses: &mut [u32]) -> Verdict {
+    let places = charges.iter_mut().zip(losses);
+    for ((charge, loss), end) in places.zip(walk(figures.into(), harvest, budgets)) {
+        *charge = end.charge;
+        *loss = u32::try_from(end.lost).expect("no more than the harvest");
     }
     verdict(figures, charges)
 }

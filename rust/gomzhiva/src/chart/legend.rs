@@ -20,6 +20,7 @@ enum Mark {
     Overdrawn,
     Harvest,
     Budget,
+    Lost,
 }
 
 /// The marks of one panel and their names.
@@ -66,9 +67,17 @@ impl Legend {
         let total = |list: &[u32]| grouped(sum(list).into());
         let harvest = format!("{} ({} Wh in all)", harvest_name(picture), total(picture.harvest));
         let budgets = format!("{} ({} Wh in all)", budget_name(picture), total(picture.budgets));
+        let mut entries = vec![(Mark::Harvest, harvest), (Mark::Budget, budgets)];
+        if picture.is_losing() {
+            let lost = format!(
+                "lost harvest: the battery is full ({} Wh in all)",
+                total(picture.losses)
+            );
+            entries.push((Mark::Lost, lost));
+        }
         Legend {
             frames: picture.frames(),
-            entries: vec![(Mark::Harvest, harvest), (Mark::Budget, budgets)],
+            entries,
         }
     }
 
@@ -108,6 +117,7 @@ impl Legend {
             Mark::Overdrawn => marks::overdrawn_area(area, &block),
             Mark::Harvest => marks::harvest_bars(area, &block),
             Mark::Budget => marks::budget_steps(area, &steps, self.frames),
+            Mark::Lost => marks::lost_part(area, (left, top), (right, bottom)),
         }
     }
 }

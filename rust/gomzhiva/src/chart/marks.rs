@@ -9,6 +9,7 @@ const CHARGE: RGBColor = RGBColor(11, 60, 93);
 const CAPACITY: RGBColor = RGBColor(165, 165, 165);
 const NEEDED: RGBColor = RGBColor(178, 45, 30);
 const HARVEST: RGBColor = RGBColor(238, 166, 32);
+const LOST: RGBColor = RGBColor(88, 36, 120);
 const RECORDED: RGBColor = RGBColor(232, 232, 232);
 const NOW: RGBColor = RGBColor(95, 95, 95);
 const OVERDRAWN: RGBColor = RGBColor(205, 70, 50);
@@ -75,6 +76,29 @@ pub fn recorded_block(page: &Page<'_>, corner: Point, opposite: Point) -> Drawn 
 
 pub fn harvest_bars(page: &Page<'_>, corners: &[Point]) -> Drawn {
     page.draw(&Polygon::new(corners, HARVEST))
+}
+
+/// A part of a bar, which `striped` gives its stripes.
+pub fn lost_part(page: &Page<'_>, corner: Point, opposite: Point) -> Drawn {
+    page.draw(&Rectangle::new([corner, opposite], LOST.filled()))
+}
+
+/// The SVG with stripes for what is lost, which the backend only fills: they differ from a plain colour in grey print too.
+pub fn striped(svg: &str) -> String {
+    let RGBColor(red, green, blue) = LOST;
+    let colour = format!("#{red:02X}{green:02X}{blue:02X}");
+    let filled = format!("fill=\"{colour}\"");
+    if !svg.contains(&filled) {
+        return svg.to_string();
+    }
+    let stripes = format!(
+        "<pattern id=\"lost\" width=\"32\" height=\"32\" patternUnits=\"userSpaceOnUse\" patternTransform=\"rotate(45)\">\n\
+         <rect width=\"32\" height=\"32\" fill=\"#E6DAEE\"/>\n\
+         <rect width=\"13\" height=\"32\" {filled}/>\n\
+         </pattern>\n"
+    );
+    let svg = svg.replace(&filled, &format!("fill=\"url(#lost) {colour}\""));
+    svg.replacen(">\n", &format!(">\n{stripes}"), 1)
 }
 
 pub fn budget_steps(page: &Page<'_>, points: &[Point], frames: usize) -> Drawn {

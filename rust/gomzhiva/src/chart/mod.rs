@@ -41,7 +41,9 @@ pub struct Picture<'a> {
     pub budgets: &'a [u32],
     /// The charge after each frame; below zero where supplied budgets overdraw the battery.
     pub charges: &'a [i64],
-    /// Frames 1 to `recorded` happened (a running shift: actual harvest, use and charge); the
+    /// What each frame loses of its harvest, because the battery is full.
+    pub losses: &'a [u32],
+    /// Frames 1 to `recorded` happened (a running shift: actual harvest, use, charge and loss); the
     /// later ones are planned. 0 for a plan.
     pub recorded: usize,
 }
@@ -52,7 +54,7 @@ pub fn svg(picture: &Picture<'_>) -> String {
     let page = SVGBackend::with_string(&mut text, PAGE).into_drawing_area();
     draw(&page, picture).expect("a string takes every drawing");
     drop(page);
-    sized_for_paper(&text)
+    marks::striped(&sized_for_paper(&text))
 }
 
 impl Picture<'_> {
@@ -62,6 +64,10 @@ impl Picture<'_> {
 
     fn is_overdrawn(&self) -> bool {
         self.charges.iter().any(|&charge| charge < 0)
+    }
+
+    fn is_losing(&self) -> bool {
+        self.losses.iter().any(|&loss| loss > 0)
     }
 }
 
@@ -130,15 +136,17 @@ mod tests {
         harvest: &[0, 2, 7, 4, 1, 0],
         budgets: &[2, 2, 3, 3, 2, 1],
         charges: &[1, 1, 5, 5, 4, 3],
+        losses: &[0, 0, 0, 1, 0, 0],
         recorded: 0,
     };
 
     /// A picture of so many frames with the same values in each of them.
-    fn even_svg(frames: usize, (harvest, budget, charge): (u32, u32, i64), rest: Picture) -> String {
+    fn even_svg(frames: usize, (harvest, budget, charge, loss): (u32, u32, i64, u32), rest: Picture) -> String {
         svg(&Picture {
             harvest: &vec![harvest; frames],
             budgets: &vec![budget; frames],
             charges: &vec![charge; frames],
+            losses: &vec![loss; frames],
             ..rest
         })
     }
@@ -154,6 +162,23 @@ mod tests {
     fn point(text: &str) -> (i32, i32) {
         let (x, y) = text.split_once(',').expect("a comma between two coordinates");
         (x.parse().expect("a whole number"), y.parse().expect("a whole number"))
+    }
+
+    /// Opposite corners of each striped part, the legend's first.
+    fn lost_parts(svg: &str) -> Vec<[(i32, i32); 2]> {
+        let striped = svg.lines().filter(|line| line.contains("fill=\"url(#lost)"));
+        let number = |line: &str, name: &str| -> i32 {
+            let value = line
+                .split(&format!(" {name}=\""))
+                .nth(1)
+                .and_then(|rest| rest.split('"').next());
+            value.expect("an attribute").parse().expect("a whole number")
+        };
+        let corners = |line| {
+            let [x, y, width, height] = ["x", "y", "width", "height"].map(|name| number(line, name));
+            [(x, y), (x + width, y + height)]
+        };
+        striped.map(corners).collect()
     }
 
     fn assert_well_formed(svg: &str) {
@@ -215,12 +240,44 @@ mod tests {
     #[test]
     fn each_frame_has_a_bar_and_a_step() {
         for frames in [0, 1, 6, 96, MAX_FRAMES] {
-            let outlines = outlines(&even_svg(frames, (7, 5, 9), PLAN));
+            let outlines = outlines(&even_svg(frames, (7, 5, 9, 0), PLAN));
             let lower = &outlines[outlines.len() - 2..];
             assert_eq!(lower[0].len(), 4 * frames, "bars");
             assert_eq!(lower[1].len(), 2 * frames, "steps");
             assert!(lower[0].chunks(4).all(|bar| bar[0].0 < bar[2].0), "a bar without width");
         }
+    }
+
+    #[test]
+    fn what_a_frame_loses_is_the_upper_part_of_its_bar() {
+        for (frames, loss) in [(1, 7), (6, 1), (96, 6), (MAX_FRAMES, 3)] {
+            let text = even_svg(frames, (7, 0, 9, loss), PLAN);
+            let parts = lost_parts(&text);
+            assert_eq!(
+                parts.len(),
+                1 + frames,
+                "a mark in the legend, and a part for each frame"
+            );
+            let outlines = outlines(&text);
+            let bars = outlines[outlines.len() - 2].chunks(4);
+            for ([corner, opposite], bar) in parts[1..].iter().zip(bars) {
+                assert_eq!((*corner, opposite.0), (bar[1], bar[2].0));
+                let (height, lost) = (bar[0].1 - bar[1].1, opposite.1 - corner.1);
+                assert!((lost * 7 - height * loss as i32).abs() <= 7, "{lost} of {height}");
+            }
+        }
+    }
+
+    #[test]
+    fn a_loss_is_drawn_and_named_where_there_is_one() {
+        let text = svg(&PLAN);
+        assert_eq!(lost_parts(&text).len(), 2, "in the legend, and in frame 4");
+        assert!(text.contains("\nlost harvest: the battery is full (1 Wh in all)\n"));
+        let none = svg(&Picture {
+            losses: &[0; 6],
+            ..PLAN
+        });
+        assert!(!none.contains("lost"));
     }
 
     #[test]
@@ -277,11 +334,11 @@ mod tests {
             ..PLAN
         };
         let pictures = [
-            even_svg(0, (0, 0, 0), PLAN),
-            even_svg(6, (0, 0, 0), none),
-            even_svg(1, (u32::MAX, 0, i64::MAX), most()),
-            even_svg(MAX_FRAMES, (400_000, u32::MAX, -2_900_000_000_000), most()),
-            even_svg(MAX_FRAMES, (0, u32::MAX, i64::MIN), PLAN),
+            even_svg(0, (0, 0, 0, 0), PLAN),
+            even_svg(6, (0, 0, 0, 0), none),
+            even_svg(1, (u32::MAX, 0, i64::MAX, u32::MAX), most()),
+            even_svg(MAX_FRAMES, (400_000, u32::MAX, -2_900_000_000_000, 400_000), most()),
+            even_svg(MAX_FRAMES, (0, u32::MAX, i64::MIN, 0), PLAN),
             svg(&Picture {
                 charges: &[i64::MIN, i64::MAX, 0, -1, 0, 1],
                 ..most()
@@ -291,12 +348,13 @@ mod tests {
         for picture in pictures {
             assert_well_formed(&picture);
             assert!(outlines(&picture).iter().flatten().all(inside));
+            assert!(lost_parts(&picture).iter().flatten().all(inside));
         }
     }
 
     #[test]
     fn a_week_is_small_and_always_the_same() {
-        let week = || even_svg(MAX_FRAMES, (4_999, 2_500, 88_888), PLAN);
+        let week = || even_svg(MAX_FRAMES, (4_999, 2_500, 88_888, 999), PLAN);
         assert!(week().len() < 300_000);
         assert_eq!(week(), week());
     }

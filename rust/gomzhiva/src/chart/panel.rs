@@ -74,6 +74,9 @@ impl<'p, 'a> Panel<'p, 'a> {
     pub fn draw_energy(&self) -> Drawn {
         let bars = self.points(&bars(self.picture.harvest));
         marks::harvest_bars(self.page, &bars)?;
+        for (corner, opposite) in lost_parts(self.picture.harvest, self.picture.losses) {
+            marks::lost_part(self.page, self.point(corner), self.point(opposite))?;
+        }
         let steps = self.points(&steps(self.picture.budgets));
         marks::budget_steps(self.page, &steps, self.picture.frames())
     }
@@ -183,13 +186,28 @@ fn zero_between((frame, charge): Spot, (_, next): Spot) -> Option<Spot> {
 
 /// The corners of a bar for each value.
 fn bars(values: &[u32]) -> Vec<Spot> {
-    let half = if values.len() <= MOST_GAPS { 0.4 } else { 0.5 };
     let bar = |(frame, &value): (usize, &u32)| {
-        let (left, right) = (frame as f64 - half, frame as f64 + half);
+        let (left, right) = sides(frame, values.len());
         let top = f64::from(value);
         [(left, 0.0), (left, top), (right, top), (right, 0.0)]
     };
     (1..).zip(values).flat_map(bar).collect()
+}
+
+/// Opposite corners of what is lost of each harvest: the upper part of its bar.
+fn lost_parts(harvest: &[u32], losses: &[u32]) -> Vec<(Spot, Spot)> {
+    let part = |(frame, (&harvest, &loss)): (usize, (&u32, &u32))| {
+        let (left, right) = sides(frame, losses.len());
+        let top = f64::from(harvest);
+        (loss > 0).then(|| ((left, top), (right, top - f64::from(loss))))
+    };
+    (1..).zip(harvest.iter().zip(losses)).filter_map(part).collect()
+}
+
+/// Where the bar of a frame begins and ends.
+fn sides(frame: usize, frames: usize) -> (f64, f64) {
+    let half = if frames <= MOST_GAPS { 0.4 } else { 0.5 };
+    (frame as f64 - half, frame as f64 + half)
 }
 
 /// The ends of a step for each value.

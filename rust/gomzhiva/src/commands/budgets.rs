@@ -1,4 +1,4 @@
-//! Budgets with the charges that they lead to, as a table and as a picture.
+//! Budgets with the charges and losses that they lead to, as a table and as a picture.
 
 use super::write;
 use crate::chart::{svg, Picture};
@@ -15,6 +15,7 @@ pub struct Budgets<'a> {
     pub request: &'a Request,
     pub budgets: Vec<u32>,
     pub charges: Vec<i64>,
+    pub losses: Vec<u32>,
     pub verdict: Verdict,
 }
 
@@ -22,18 +23,20 @@ pub struct Budgets<'a> {
 pub struct Shown<'a> {
     pub title: &'a str,
     pub words: &'a str,
-    pub is_warning: bool,
+    pub warning: Option<&'a str>,
     pub inputs: &'a [&'a Place],
 }
 
 impl<'a> Budgets<'a> {
     pub fn trace(request: &'a Request, budgets: Vec<u32>) -> Result<Budgets<'a>, Failure> {
         let mut charges = vec![0; request.harvest.len()];
-        let verdict = Linked.trace(request.figures, &request.harvest, &budgets, &mut charges)?;
+        let mut losses = vec![0; request.harvest.len()];
+        let verdict = Linked.trace(request.figures, &request.harvest, &budgets, &mut charges, &mut losses)?;
         Ok(Budgets {
             request,
             budgets,
             charges,
+            losses,
             verdict,
         })
     }
@@ -46,6 +49,7 @@ impl<'a> Budgets<'a> {
                 ("harvest", column(&self.request.harvest)),
                 ("budget", column(&self.budgets)),
                 ("charge", self.charges.clone()),
+                ("loss", column(&self.losses)),
             ],
         }
     }
@@ -55,8 +59,8 @@ impl<'a> Budgets<'a> {
         self.charges.last().copied().unwrap_or_default()
     }
 
-    /// Shows table, CSV or picture as the arguments ask. The words close the table; a warning that they have is told on
-    /// standard error where they have no place.
+    /// Shows table, CSV or picture as the arguments ask. The words close the table; where they have no place, the warning is
+    /// told on standard error.
     pub fn show(&self, report: &ReportArguments, shown: &Shown<'_>) -> Result<(), Failure> {
         let only_picture = report.draws_on_standard_output();
         if only_picture && report.table.csv {
@@ -71,8 +75,8 @@ impl<'a> Budgets<'a> {
         } else if !only_picture {
             return print(&format!("{}\n{}\n", self.table(0).aligned(), shown.words));
         }
-        if shown.is_warning {
-            tell(format!("gomzhiva: {}", shown.words));
+        if let Some(warning) = shown.warning {
+            tell(format!("gomzhiva: {warning}"));
         }
         Ok(())
     }
@@ -88,6 +92,7 @@ impl<'a> Budgets<'a> {
             harvest: &self.request.harvest,
             budgets: &self.budgets,
             charges: &self.charges,
+            losses: &self.losses,
             recorded: 0,
         }
     }

@@ -5,7 +5,7 @@ use super::worth;
 use crate::cli::PlanArguments;
 use crate::failure::Failure;
 use crate::files::print;
-use crate::report::{capitalised, counted, mean, sum};
+use crate::report::{capitalised, counted, lost, mean, sum};
 use crate::request::{Draft, Request};
 use energy::{Energy, Linked, Refusal, LISTING_BYTES};
 
@@ -21,7 +21,7 @@ pub fn run(arguments: &PlanArguments) -> Result<(), Failure> {
     let shown = Shown {
         title: &format!("Plan of {}", arguments.request.request.input_name()),
         words: &summary(&request, &plan)?,
-        is_warning: false,
+        warning: None,
         inputs: &[&arguments.request.request],
     };
     plan.show(&arguments.report, &shown)
@@ -56,7 +56,7 @@ fn summary(request: &Request, plan: &Budgets<'_>) -> Result<String, Failure> {
     let budgets = &plan.budgets;
     let needed = Linked.needed(figures, &request.harvest)?;
     Ok(format!(
-        "{}: {} Wh harvested, {} Wh budgeted (mean {}, most {}).\n\
+        "{}: {} Wh harvested, {} Wh budgeted (mean {}, most {}), {}.\n\
          The charge goes from {} to {} Wh, and is at most {} Wh after a frame, of a capacity of {} Wh.\n\
          A capacity of {needed} Wh would serve every curve as well as unlimited storage.\n\
          {}.",
@@ -65,6 +65,7 @@ fn summary(request: &Request, plan: &Budgets<'_>) -> Result<String, Failure> {
         sum(budgets),
         mean(budgets),
         budgets.iter().max().unwrap_or(&0),
+        lost(&plan.losses),
         figures.start,
         plan.last_charge(),
         plan.charges.iter().max().unwrap_or(&0),

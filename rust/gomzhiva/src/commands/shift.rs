@@ -7,7 +7,7 @@ use crate::cli::{JournalArguments, OutputArguments, ShiftCommand};
 use crate::failure::Failure;
 use crate::files::print;
 use crate::journal::{Journal, Purpose, Running};
-use crate::report::{capitalised, column, counted, ending, frames, mean, sum, Table};
+use crate::report::{capitalised, column, counted, ending, frames, lost, mean, sum, Table};
 use crate::request::{Request, RequestArguments};
 use crate::streams::tell;
 use energy::{Energy, Figures, Linked, Refusal, Rest, Shift};
@@ -97,6 +97,7 @@ fn show(running: &Running, csv: bool) -> Result<(), Failure> {
             ("harvest", column(&running.column(|r| r.harvest))),
             ("use", column(&running.column(|r| r.used))),
             ("charge", column(&running.column(|r| r.charge))),
+            ("loss", column(&running.column(|r| r.loss))),
         ],
     };
     if !csv {
@@ -140,10 +141,11 @@ fn rest_words(rest: Rest, running: &Running, traced: &Budgets<'_>) -> String {
     let left = counted(traced.budgets.len(), "frame");
     match rest {
         Rest::Planned => format!(
-            "{left} left: {} Wh expected, {} Wh budgeted (mean {}). The charge goes from {start} to {} Wh.",
+            "{left} left: {} Wh expected, {} Wh budgeted (mean {}), {}. The charge goes from {start} to {} Wh.",
             sum(running.rest_harvest()),
             sum(&traced.budgets),
             mean(&traced.budgets),
+            lost(&traced.losses),
             traced.last_charge(),
         ),
         Rest::Short { missing } => format!(
@@ -168,12 +170,12 @@ fn warn(words: Option<String>) {
 fn chart(journal: &JournalArguments, output: &OutputArguments) -> Result<(), Failure> {
     let running = &look(journal)?;
     let rest = rest_request(running);
-    let (budgets, charges, warning) = match running.plan_rest() {
-        Err(Refusal::AllRecorded) => (Vec::new(), Vec::new(), missed_end(&running.shift)),
+    let (budgets, charges, losses, warning) = match running.plan_rest() {
+        Err(Refusal::AllRecorded) => (Vec::new(), Vec::new(), Vec::new(), missed_end(&running.shift)),
         planned => {
             let (planned, budgets) = planned?;
             let traced = Budgets::trace(&rest, budgets)?;
-            (traced.budgets, traced.charges, short_by(planned))
+            (traced.budgets, traced.charges, traced.losses, short_by(planned))
         }
     };
     let harvest = [running.column(|r| r.harvest), rest.harvest].concat();
@@ -190,6 +192,7 @@ fn chart(journal: &JournalArguments, output: &OutputArguments) -> Result<(), Fai
         harvest: &harvest,
         budgets: &[running.column(|r| r.used), budgets].concat(),
         charges: &[column(&running.column(|r| r.charge)), charges].concat(),
+        losses: &[running.column(|r| r.loss), losses].concat(),
         recorded,
     };
     write(&output.output, &[&journal.journal], svg(&picture).as_bytes())?;

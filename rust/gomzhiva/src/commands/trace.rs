@@ -1,9 +1,9 @@
-//! `trace`: the charges that supplied budgets lead to, and the verdict.
+//! `trace`: the charges and losses that supplied budgets lead to, and the verdict.
 
 use super::budgets::{Budgets, Shown};
 use crate::cli::TraceArguments;
 use crate::failure::Failure;
-use crate::report::{counted, ending};
+use crate::report::{counted, ending, lost, sum};
 use crate::request::read_budgets;
 use energy::{Refusal, Verdict};
 
@@ -31,13 +31,25 @@ pub fn run(arguments: &TraceArguments) -> Result<(), Failure> {
         arguments.request.request.input_name(),
         if is_feasible { "" } else { ": not feasible" },
     );
+    let verdict = verdict(&traced);
     let shown = Shown {
         title: &title,
-        words: &verdict(&traced),
-        is_warning: !is_feasible,
+        words: &format!("{}\n{verdict}", summary(&traced)),
+        warning: (!is_feasible).then_some(verdict.as_str()),
         inputs: &[&arguments.request.request, &arguments.budgets],
     };
     traced.show(&arguments.report, &shown)
+}
+
+/// The energies in words.
+fn summary(traced: &Budgets<'_>) -> String {
+    format!(
+        "{}: {} Wh harvested, {} Wh budgeted, {}.",
+        counted(traced.budgets.len(), "frame"),
+        sum(&traced.request.harvest),
+        sum(&traced.budgets),
+        lost(&traced.losses),
+    )
 }
 
 /// The verdict in words.

@@ -3,12 +3,13 @@
 use crate::request::Request;
 use energy::{Energy, Linked, Refusal, Rest, Shift};
 
-/// A frame that was recorded, with the charge after it.
+/// A frame that was recorded, with the charge after it and what it lost.
 #[derive(Clone, Copy, Debug, PartialEq, Eq)]
 pub struct Recorded {
     pub harvest: u32,
     pub used: u32,
     pub charge: u32,
+    pub loss: u32,
 }
 
 #[derive(Clone, Debug)]
@@ -30,11 +31,14 @@ impl Running {
 
     /// Records the next frame; a refusal leaves the shift as it was.
     pub fn record(&mut self, harvest: u32, used: u32) -> Result<(), Refusal> {
+        let before = self.shift.now.totals.lost;
         self.shift = Linked.shift_record(self.shift, harvest, used)?;
+        let now = self.shift.now;
         self.recorded.push(Recorded {
             harvest,
             used,
-            charge: self.shift.now.charge,
+            charge: now.charge,
+            loss: u32::try_from(now.totals.lost - before).expect("no more than the harvest"),
         });
         Ok(())
     }

@@ -12,13 +12,14 @@ pub const START: usize = 1;
 pub const END: usize = 2;
 
 /// A column of the table of frames: a list of numbers, or what only people read.
-pub const COLUMNS: [(&str, Kind); 6] = [
+pub const COLUMNS: [(&str, Kind); 7] = [
     ("harvest", Kind::List(HARVEST)),
     ("budget", Kind::List(BUDGET)),
     ("frame", Kind::Skipped),
     ("time", Kind::Skipped),
     ("charge", Kind::Skipped),
     ("use", Kind::Skipped),
+    ("loss", Kind::Skipped),
 ];
 pub const HARVEST: usize = 0;
 pub const BUDGET: usize = 1;
@@ -303,6 +304,7 @@ mod tests {
             "# a day\n\nEND 2\nCapacity\t5 # Wh\nstart 002\n\nHarvest\n\n6\n\n4",
             "capacity 5\rstart 2\rend 2\rharvest\r6\r4\r",
             "capacity 5\nstart 2\nend 2\ntime,harvest,charge\n06:00,6,-3\n06:15,4\n",
+            "capacity 5\nstart 2\nend 2\nharvest loss\n6 9\n4 none\n",
             "capacity 5,\nstart 2,\nend 2,\ntime,harvest\n2026-06-21 06:00,6\n\"21.6.2026, 06:15\",4\n",
         ] {
             assert_eq!(said(text), day, "{text:?}");
@@ -385,12 +387,12 @@ mod tests {
             "2:3: the end of the line is expected, found nothing"
         );
         assert_eq!(fault("harvest\t\n6\t\n\t7\n"), format!("3:1: {number} nothing"));
-        let names = "a figure (capacity, start, end) or a column (harvest, budget, frame, time, charge, use)";
+        let names = "a figure (capacity, start, end) or a column (harvest, budget, frame, time, charge, use, loss)";
         assert_eq!(fault("harvst\n6"), format!("1:1: {names} is expected, found 'harvst'"));
         assert_eq!(fault("5\n6"), format!("1:1: {names} is expected, found '5'"));
         assert_eq!(
             fault("harvest,harvest\n"),
-            "1:9: a column (budget, frame, time, charge, use) is expected, found 'harvest'"
+            "1:9: a column (budget, frame, time, charge, use, loss) is expected, found 'harvest'"
         );
         let table = "a table with the column 'harvest' is expected, found the end of the text";
         assert_eq!(fault(""), format!("1:1: {table}"));

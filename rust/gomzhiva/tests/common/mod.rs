@@ -1,7 +1,8 @@
 //! The built program, run as a person would run it, in a folder of its own.
 #![allow(dead_code)] // each test file uses a part
 
-use energy::{Shift, Totals};
+use energy::{Energy, Figures, Shift, Totals};
+use evidence::reference::Reference;
 use proptest::prelude::*;
 use proptest::test_runner::{RngAlgorithm, TestRng, TestRunner};
 use std::fs::{self, Permissions};
@@ -63,6 +64,31 @@ pub fn standing(shift: &Shift) -> String {
     format!(
         "{} of {} {frames} recorded; charge {} Wh of a capacity of {} Wh; {harvested} Wh harvested, {used} Wh used, {lost} Wh lost.{finished}\n",
         now.recorded, terms.frames, now.charge, terms.capacity
+    )
+}
+
+/// The table of budgets as CSV, with the reference's charges and losses; its first frame is the one after `before`.
+pub fn budget_table(before: u32, figures: Figures, harvest: &[u32], budgets: &[u32]) -> String {
+    let (mut charges, mut losses) = (vec![0; harvest.len()], vec![0; harvest.len()]);
+    let traced = Reference.trace(figures, harvest, budgets, &mut charges, &mut losses);
+    traced.expect("budgets that can be traced");
+    let mut text = "frame,harvest,budget,charge,loss\n".to_string();
+    for (i, frame) in (0..harvest.len()).zip(before + 1..) {
+        text += &format!("{frame},{},{},{},{}\n", harvest[i], budgets[i], charges[i], losses[i]);
+    }
+    text
+}
+
+/// The row of the frame that leads from one record to the next, as `shift show --csv` prints it.
+pub fn recorded_row(before: &Shift, after: &Shift) -> String {
+    let (old, new) = (before.now.totals, after.now.totals);
+    format!(
+        "{},{},{},{},{}\n",
+        after.now.recorded,
+        new.harvested - old.harvested,
+        new.used - old.used,
+        after.now.charge,
+        new.lost - old.lost
     )
 }
 

@@ -20,10 +20,10 @@ accepted a = law.accepted (asked a) (length (a .args .budgets .now)) (a .pre .0)
 
 -- the places before, and what stands in the lists
 abbrev start : tie.After-write-plan → tie.Start
-start p = p .before .before .before .before .before .before
+start p = p .before .before .before .before .before .before .before
 
 abbrev planned : tie.After-fill → tie.After-write-plan
-planned f = f .before .before .before .before .before
+planned f = f .before .before .before .before .before .before
 
 abbrev budgets : tie.After-write-plan → List ℕ
 budgets p = p .write-plan .last .1 .1 .0
@@ -31,31 +31,36 @@ budgets p = p .write-plan .last .1 .1 .0
 abbrev charges : tie.After-fill → List ℤ
 charges f = f .fill .last .1 .1 .1 .0
 
+abbrev losses : tie.After-fill → List ℕ
+losses f = f .fill .last .1 .1 .1 .1 .0
+
 few : (p : tie.After-write-plan) → length (budgets p) ≤ maxFrames
 few p = law.budgets-few (asked (start p)) (accepted (start p)) (budgets p) (p .write-plan .ensures)
 
 needed-capacity-requires : tie.Need-needed-capacity-requires
-needed-capacity-requires c κs = accepted (c .before .before .before) .needed
+needed-capacity-requires c κs = accepted (c .before .before .before .before) .needed
 
 fill-requires : tie.Need-fill-requires
 fill-requires c κs =
-    let p = c .before .before .before .before in
+    let p = c .before .before .before .before .before in
     let a = start p in
     let w = accepted a in
-    (w .few, (law.budgets-long (asked a) w (budgets p) (p .write-plan .ensures), a .pre .1))
+    (w .start-fits, (w .few, (law.budgets-long (asked a) w (budgets p) (p .write-plan .ensures), a .pre .1)))
 
 put-frames-requires : tie.Need-put-frames-requires
 put-frames-requires c κs =
-    let f = c .before .before .before .before .before .before .before .before .before .before .before in
+    let f = c .before .before .before .before .before .before .before .before .before .before .before .before .before .before in
     let p = planned f in
     let q = asked (start p) in
     let w = accepted (start p) in
     let b = p .write-plan .ensures in (
       few p,
       (
-        law.charges-long q w (budgets p) b (charges f) (f .fill .ensures),
-        law.charges-shown q w (budgets p) b
-            (charges f) (f .fill .ensures),
+        law.charges-long q w (budgets p) b (charges f) (losses f) (f .fill .ensures),
+        (
+          law.losses-long q w (budgets p) b (charges f) (losses f) (f .fill .ensures),
+          law.charges-shown q w (budgets p) b (charges f) (losses f) (f .fill .ensures),
+        ),
       ),
     )
 
@@ -63,14 +68,14 @@ returns : tie.Need-returns
 returns c =
     let z = c .before .before in
     let y = z .before .before .before .before in
-    let x = y .before .before .before .before .before .before in
+    let x = y .before .before .before .before .before .before .before in
     let s = x .before .before .before in
-    let f = s .before .before .before in
+    let f = s .before .before .before .before .before in
     let p = planned f in
     let n = p .before .before in
     puts-first
     (puts-same
-    (law.shown-is (asked (start p)) (accepted (start p)) (budgets p) (p .write-plan .ensures) (charges f)
+    (law.shown-is (asked (start p)) (accepted (start p)) (budgets p) (p .write-plan .ensures) (charges f) (losses f)
     (f .fill .ensures)
     (n .needed-capacity .result) (s .sums-of .result) (n .needed-capacity .ensures) (s .sums-of .ensures))
     (puts-then (x .put-first .ensures) (puts-then (y .put-frames .ensures) (z .put-worth .ensures))))
@@ -80,13 +85,14 @@ list-plan-spec =
     tie.close
     (tie.spec
     needed-capacity-requires
-    (λ c κs. c .before .before .before .before .before .pre .0)
+    (λ c κs. c .before .before .before .before .before .before .pre .0)
     fill-requires
-    (λ c κs. few (c .before .before .before .before .before .before .before))
+    (λ c κs. few (planned (c .before .before .before .before)))
     (λ c. search needs)
     (λ c κs. search needs)
     put-frames-requires
     (λ c κs. search needs)
+    (λ c. search needs)
     (λ c. search needs)
     (λ c. search needs)
     (λ c. search needs)

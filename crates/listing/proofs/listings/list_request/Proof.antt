@@ -44,20 +44,23 @@ part-budgets-end c = omega (arith, few c)
 part-charges-end : tie.Need-part-charges-end
 part-charges-end c = omega (arith, few (c .before))
 
+part-losses-end : tie.Need-part-losses-end
+part-losses-end c = omega (arith, few (c .before .before))
+
 list-plan-requires : tie.Need-list-plan-requires
 list-plan-requires c κs =
-    let e = c .before .before .before in
+    let e = c .before .before .before .before in
     let a = e .before .before .before .before .before in
     let q = asked a in (
       ap (λ (m : ℕ). isNone (planRefusal q m)) (law.part-long (frameCount q) _ (few e))
           ∙ accepted e,
-      law.part-long (frameCount q) _ (few e),
+      (law.part-long (frameCount q) _ (few e), law.part-long (frameCount q) _ (few e)),
     )
 
 returns-2 : tie.Need-returns-2
 returns-2 c =
-    let p = c .before .before .before .before in
-    let e = p .before .before .before .before in
+    let p = c .before .before .before .before .before in
+    let e = p .before .before .before .before .before in
     let r = e .before .before in
     wrote-same
     (law.listed (asked (r .before .before .before)) (r .plan-refusal .result) (r .plan-refusal .ensures) (none e))
@@ -68,4 +71,4 @@ list-request-spec =
     tie.close
     (tie.spec (λ c κs. search needs) (λ c κs. search needs) (λ c κs. search needs) (λ c. search needs) returns
     (λ c. search needs) (λ c. search needs) part-budgets-end (λ c. search needs) (λ c. search needs) part-charges-end
-    list-plan-requires (λ c. search needs) returns-2)
+    (λ c. search needs) (λ c. search needs) part-losses-end list-plan-requires (λ c. search needs) returns-2)
