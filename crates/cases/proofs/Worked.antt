@@ -16,7 +16,6 @@ unfolding decimal lineOf planOf openPlan neededOf framesOf plan budget largest r
 worked-cases =
     refl ▸ (refl, refl) ▸ (refl, refl) ▸ (refl, refl) ▸ (refl, refl, refl) ▸ (refl, refl) ▸ (refl, refl)
     ▸ (refl, refl) ▸ (refl, refl, refl) ▸ (refl, refl) ▸ (refl, refl) ▸ (refl, refl) ▸ (refl, refl)
-    ▸ refl ▸ refl ▸ (refl, refl) ▸ (refl, refl, refl) ▸ (refl, refl, refl) ▸ (refl, refl, refl) ▸ refl
-    ▸ (refl, refl, refl)
-    ▸ (refl, refl) ▸ refl ▸ refl ▸ refl ▸ refl ▸ (refl, refl, refl) ▸ refl ▸ (refl, refl) ▸ (refl, refl)
-    ▸ tt
+    ▸ refl ▸ refl ▸ (refl, refl) ▸ (refl, refl, refl) ▸ (refl, refl, refl) ▸ (refl, refl, refl)
+    ▸ (refl, refl, refl) ▸ refl ▸ (refl, refl, refl) ▸ (refl, refl) ▸ refl ▸ refl ▸ refl ▸ refl
+    ▸ (refl, refl, refl) ▸ refl ▸ (refl, refl) ▸ (refl, refl) ▸ tt

@@ -107,6 +107,7 @@ cases =
     ∷ traces (listing 22) (4 ∷ 4 ∷ 4 ∷ 4 ∷ 2 ∷ 2 ∷ []) (pos 4 ∷ pos 4 ∷ pos 0 ∷ negsuc 3 ∷ negsuc 0 ∷ pos 2 ∷ [])
     (replicate 6 0) (below-zero 4)
     ∷ traces (listing 5) (replicate 6 0) (replicate 6 (pos 5)) (3 ∷ 4 ∷ 0 ∷ 0 ∷ 5 ∷ 5 ∷ []) is-feasible
+    ∷ traces (asked 5 0 0 (0 ∷ 10 ∷ [])) (3 ∷ 0 ∷ []) (negsuc 2 ∷ pos 5 ∷ []) (0 ∷ 2 ∷ []) (below-zero 1)
     ∷ records four 3 7 0 0
     ∷ unrecorded four 3 8 (refusal 21 1)
     ∷ records four 3 1 5 1

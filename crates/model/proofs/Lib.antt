@@ -6,8 +6,8 @@ pub mod Integers
 pub mod Tables
 pub mod Curves
 pub mod Trace
-pub mod Losses
 pub mod Machine
+pub mod Losses
 pub mod Feasibility
 pub mod Reserve
 pub mod Budget

@@ -1,14 +1,19 @@
--- What a trace loses: no unit is left out, only a full store loses, and no frame loses more than its harvest.
-use mathlib.Core.Path.{_≡_, refl, ap, _∙_}
+-- What charges and losses of a trace mean: no unit is left out, no charge is above the capacity, and only a full store
+-- loses. Nothing else has that meaning, and no frame loses more than its harvest.
+use mathlib.Core.Path.{_≡_, refl, sym, ap, _∙_}
 use mathlib.Core.List.{List, [], _∷_}
 use Prim.Native.Nat.{ℕ, zero, suc, _+_, _-_, _≤_, _<_, min}
 use native.Mathlib.Omega.{arith}
 use lib.ListN.{length, getD, take}
 use lib.IntN.{ℤ, pos, negsuc, _+ℤ_, _-ℤ_, +ℤ-idr}
+use lib.Signed.{_≤ℤ_}
 use Rattle.model.specs.Request.{Request, total, frameCount}
 use Rattle.model.specs.Trace.{minZ, excess, atHandZ, tracedEnd, traceFrom, trace, traceLossesFrom, traceLosses}
-use Rattle.model.specs.Trace.{lastFrom, Balanced, LostWhenFull}
-use Rattle.model.proofs.Integers.{up, down, plus-parts, minus-parts, one-side, parts-eq}
+use Rattle.model.specs.Trace.{lastFrom, Accounted}
+use Rattle.model.specs.declared.frame.TracedEnd.{TracedEnd}
+use Rattle.model.proofs.Integers.{up, down, plus-parts, minus-parts, one-side, parts-eq, parts-le}
+use Rattle.model.proofs.Integers.{pos-le, le-pos, up-mono}
+use Rattle.model.proofs.Machine.{ended}
 use Rattle.model.proofs.Trace.{min-pos}
 
 -- ---- one frame
@@ -41,14 +46,17 @@ full-after c (pos n) l = min-pos c n ∙ ap pos (omega arith)
 full-after c (negsuc n) l = absurd (omega arith)
 
 -- a frame leaves no charge above the capacity
-pub after-within-capacity : (c : ℕ) (x : ℤ) (h b : ℕ) → up (tracedEnd c x h b .charge) ≤ c
+after-within-capacity : (c : ℕ) (x : ℤ) (h b : ℕ) → tracedEnd c x h b .charge ≤ℤ pos c
 after-within-capacity c x h b = go (atHandZ c x h -ℤ pos b)
   where
-    go : (z : ℤ) → up (minZ (pos c) z) ≤ c
-    go (pos n) = let k : up (minZ (pos c) (pos n)) ≡ min c n = ap up (min-pos c n) in omega arith
-    go (negsuc n) = omega arith
+    go : (z : ℤ) → minZ (pos c) z ≤ℤ pos c
+    go (pos n) = rw (min-pos c n) (pos-le (min c n) c (omega arith))
+    go (negsuc n) = parts-le (negsuc n) (pos c) (omega arith)
 
--- and from one within it loses at most its harvest
+pub part-within-capacity : (c : ℕ) (x : ℤ) (h b : ℕ) → up (tracedEnd c x h b .charge) ≤ c
+part-within-capacity c x h b = up-mono (tracedEnd c x h b .charge) (pos c) (after-within-capacity c x h b)
+
+-- and from a charge within the capacity it loses at most its harvest
 pub lost-within-harvest : (c : ℕ) (x : ℤ) (h b : ℕ) → up x ≤ c → tracedEnd c x h b .lost ≤ h
 lost-within-harvest c x h b l =
     let z = atHandZ c x h -ℤ pos b in
@@ -67,9 +75,66 @@ lost-within-harvest c x h b l =
     excess-is (pos n) = refl
     excess-is (negsuc n) = omega arith
 
+-- charge and loss that balance, the charge within the capacity and full where something is lost, are the frame's end
+frame-only : (c : ℕ) (x : ℤ) (h b : ℕ) (z : ℤ) (l : ℕ) → x +ℤ pos h ≡ z +ℤ pos (b + l) → z ≤ℤ pos c →
+    (0 < l → z ≡ pos c) → ended z l ≡ tracedEnd c x h b
+frame-only c x h b z l p m f =
+    let w = atHandZ c x h -ℤ pos b in
+    let above : up (x +ℤ pos h) ≡ up (z +ℤ pos (b + l)) = ap up p in
+    let below : down (x +ℤ pos h) ≡ down (z +ℤ pos (b + l)) = ap down p in
+    let rest : z +ℤ pos l ≡ w = parts-eq (z +ℤ pos l) w
+    (omega (arith, minus-parts (x +ℤ pos h) (pos b), plus-parts z (pos l), plus-parts z (pos (b + l)))) in
+    let k = kept l z m f in
+    ap (λ (y : ℤ). ended y l) (sym (k .0)) ∙ ap (ended (minZ (pos c) (z +ℤ pos l))) (sym (k .1))
+    ∙ ap (λ (y : ℤ). ended (minZ (pos c) y) (excess y c)) rest
+  where
+    -- what is kept of them and what exceeds the capacity are they
+    kept : (l : ℕ) (z : ℤ) → z ≤ℤ pos c → (0 < l → z ≡ pos c) →
+        (minZ (pos c) (z +ℤ pos l) ≡ z) × (excess (z +ℤ pos l) c ≡ l)
+    kept zero (pos n) m f =
+        let k = le-pos n c m in
+        (min-pos c (n + 0) ∙ ap pos (omega arith), omega arith)
+    kept zero (negsuc n) m f = rw (+ℤ-idr (negsuc n)) (refl, refl)
+    kept (suc l) z m f =
+        let e = f (omega arith) in
+        rw e (min-pos c (c + suc l) ∙ ap pos (omega arith), omega arith)
+
 -- ---- all frames
 
--- after n frames from charge x, no unit is left out
+-- what it is to account for every unit, from charge x
+record AccountedFrom (c : ℕ) (x : ℤ) (hs bs : List ℕ) (zs : List ℤ) (ls : List ℕ) : Type 0 where
+  balanced : (n : ℕ) →
+      x +ℤ pos (total (take n hs)) ≡ lastFrom x (take n zs) +ℤ pos (total (take n bs) + total (take n ls))
+  within : (i : ℕ) → getD zs i (pos 0) ≤ℤ pos c
+  full : (i : ℕ) → 0 < getD ls i 0 → getD zs i (pos 0) ≡ pos c
+
+-- after one frame that balances, the frames behind it do exactly where all of them do
+module _ (x y z : ℤ) (h hs b bs l ls : ℕ) (frame : x +ℤ pos h ≡ y +ℤ pos (b + l)) where
+  -- both sides differ by as much behind the frame as from it on
+  same-difference :
+      up (x +ℤ pos (h + hs)) + down (z +ℤ pos (b + bs + (l + ls))) + (up (z +ℤ pos (bs + ls)) + down (y +ℤ pos hs))
+      ≡ down (x +ℤ pos (h + hs)) + up (z +ℤ pos (b + bs + (l + ls))) + (down (z +ℤ pos (bs + ls)) + up (y +ℤ pos hs))
+  same-difference =
+      let above : up (x +ℤ pos h) ≡ up (y +ℤ pos (b + l)) = ap up frame in
+      let below : down (x +ℤ pos h) ≡ down (y +ℤ pos (b + l)) = ap down frame in
+      omega (
+        arith,
+        plus-parts x (pos h),
+        plus-parts y (pos (b + l)),
+        plus-parts y (pos hs),
+        plus-parts z (pos (bs + ls)),
+        plus-parts x (pos (h + hs)),
+        plus-parts z (pos (b + bs + (l + ls))),
+      )
+
+  joined : y +ℤ pos hs ≡ z +ℤ pos (bs + ls) → x +ℤ pos (h + hs) ≡ z +ℤ pos (b + bs + (l + ls))
+  joined q =
+      parts-eq (x +ℤ pos (h + hs)) (z +ℤ pos (b + bs + (l + ls))) (omega (arith, same-difference, ap up q, ap down q))
+
+  behind : x +ℤ pos (h + hs) ≡ z +ℤ pos (b + bs + (l + ls)) → y +ℤ pos hs ≡ z +ℤ pos (bs + ls)
+  behind q = parts-eq (y +ℤ pos hs) (z +ℤ pos (bs + ls)) (omega (arith, same-difference, ap up q, ap down q))
+
+-- a trace accounts for every unit
 balanced-from : (c : ℕ) (x : ℤ) (n : ℕ) (hs bs : List ℕ) → length bs ≡ length hs →
     x +ℤ pos (total (take n hs))
     ≡ lastFrom x (take n (traceFrom c x hs bs)) +ℤ pos (total (take n bs) + total (take n (traceLossesFrom c x hs bs)))
@@ -80,40 +145,77 @@ balanced-from c x (suc n) (h ∷ hs) [] l = absurd (omega arith)
 balanced-from c x (suc n) (h ∷ hs) (b ∷ bs) l =
     let e = tracedEnd c x h b in
     joined x (e .charge) (lastFrom (e .charge) (take n (traceFrom c (e .charge) hs bs))) h (total (take n hs)) b
-    (total (take n bs)) (e .lost) (total (take n (traceLossesFrom c (e .charge) hs bs)))
-    (frame-balance c x h b) (balanced-from c (e .charge) n hs bs (omega arith))
-  where
-    -- one frame's balance and that of the frames behind it
-    joined : (x y z : ℤ) (h hs b bs l ls : ℕ) → x +ℤ pos h ≡ y +ℤ pos (b + l) → y +ℤ pos hs ≡ z +ℤ pos (bs + ls) →
-        x +ℤ pos (h + hs) ≡ z +ℤ pos (b + bs + (l + ls))
-    joined x y z h hs b bs l ls p q =
-        let p⁺ : up (x +ℤ pos h) ≡ up (y +ℤ pos (b + l)) = ap up p in
-        let p⁻ : down (x +ℤ pos h) ≡ down (y +ℤ pos (b + l)) = ap down p in
-        let q⁺ : up (y +ℤ pos hs) ≡ up (z +ℤ pos (bs + ls)) = ap up q in
-        let q⁻ : down (y +ℤ pos hs) ≡ down (z +ℤ pos (bs + ls)) = ap down q in
-        parts-eq (x +ℤ pos (h + hs)) (z +ℤ pos (b + bs + (l + ls)))
-        (omega (
-          arith,
-          plus-parts x (pos h),
-          plus-parts y (pos (b + l)),
-          plus-parts y (pos hs),
-          plus-parts z (pos (bs + ls)),
-          plus-parts x (pos (h + hs)),
-          plus-parts z (pos (b + bs + (l + ls))),
-        ))
+    (total (take n bs)) (e .lost) (total (take n (traceLossesFrom c (e .charge) hs bs))) (frame-balance c x h b)
+    (balanced-from c (e .charge) n hs bs (omega arith))
 
--- a trace of a budget for each frame leaves no unit out
-pub trace-balanced : (r : Request) (bs : List ℕ) → length bs ≡ frameCount r →
-    Balanced r bs (trace r bs) (traceLosses r bs)
-trace-balanced r bs l n = balanced-from (r .figures .capacity) (pos (r .figures .start)) n (r .harvest) bs l
+within-from : (c : ℕ) (x : ℤ) (hs bs : List ℕ) (i : ℕ) → getD (traceFrom c x hs bs) i (pos 0) ≤ℤ pos c
+within-from c x [] bs i = pos-le 0 c (omega arith)
+within-from c x (h ∷ hs) [] i = pos-le 0 c (omega arith)
+within-from c x (h ∷ hs) (b ∷ bs) zero = after-within-capacity c x h b
+within-from c x (h ∷ hs) (b ∷ bs) (suc i) = within-from c (tracedEnd c x h b .charge) hs bs i
 
-lost-from : (c : ℕ) (x : ℤ) (hs bs : List ℕ) (i : ℕ) → 0 < getD (traceLossesFrom c x hs bs) i 0 →
+full-from : (c : ℕ) (x : ℤ) (hs bs : List ℕ) (i : ℕ) → 0 < getD (traceLossesFrom c x hs bs) i 0 →
     getD (traceFrom c x hs bs) i (pos 0) ≡ pos c
-lost-from c x [] bs i l = absurd (omega arith)
-lost-from c x (h ∷ hs) [] i l = absurd (omega arith)
-lost-from c x (h ∷ hs) (b ∷ bs) zero l = full-after c (atHandZ c x h -ℤ pos b) l
-lost-from c x (h ∷ hs) (b ∷ bs) (suc i) l = lost-from c (tracedEnd c x h b .charge) hs bs i l
+full-from c x [] bs i l = absurd (omega arith)
+full-from c x (h ∷ hs) [] i l = absurd (omega arith)
+full-from c x (h ∷ hs) (b ∷ bs) zero l = full-after c (atHandZ c x h -ℤ pos b) l
+full-from c x (h ∷ hs) (b ∷ bs) (suc i) l = full-from c (tracedEnd c x h b .charge) hs bs i l
 
--- and where it loses the store is full
-pub trace-full : (r : Request) (bs : List ℕ) → LostWhenFull r (trace r bs) (traceLosses r bs)
-trace-full r bs i l = lost-from (r .figures .capacity) (pos (r .figures .start)) (r .harvest) bs i l
+pub trace-accounted : (r : Request) (bs : List ℕ) → length bs ≡ frameCount r →
+    Accounted r bs (trace r bs) (traceLosses r bs)
+trace-accounted r bs l =
+    let c = r .figures .capacity in
+    let x = pos (r .figures .start) in
+    record {
+      balanced = λ n. balanced-from c x n (r .harvest) bs l;
+      within = within-from c x (r .harvest) bs;
+      full = full-from c x (r .harvest) bs;
+    }
+
+-- and nothing else does
+only-from : (c : ℕ) (x : ℤ) (hs bs : List ℕ) (zs : List ℤ) (ls : List ℕ) → length bs ≡ length hs →
+    length zs ≡ length hs → length ls ≡ length hs → AccountedFrom c x hs bs zs ls →
+    (zs ≡ traceFrom c x hs bs) × (ls ≡ traceLossesFrom c x hs bs)
+only-from c x [] [] [] [] k m n a = (refl, refl)
+only-from c x [] (b ∷ bs) zs ls k m n a = absurd (omega arith)
+only-from c x [] [] (z ∷ zs) ls k m n a = absurd (omega arith)
+only-from c x [] [] [] (l ∷ ls) k m n a = absurd (omega arith)
+only-from c x (h ∷ hs) [] zs ls k m n a = absurd (omega arith)
+only-from c x (h ∷ hs) (b ∷ bs) [] ls k m n a = absurd (omega arith)
+only-from c x (h ∷ hs) (b ∷ bs) (z ∷ zs) [] k m n a = absurd (omega arith)
+only-from c x (h ∷ hs) (b ∷ bs) (z ∷ zs) (l ∷ ls) k m n a =
+    let u : h ≡ h + 0 = omega arith in
+    let v : b + 0 + (l + 0) ≡ b + l = omega arith in
+    let first = ap (λ (j : ℕ). x +ℤ pos j) u ∙ (a .balanced 1 ∙ ap (λ (j : ℕ). z +ℤ pos j) v) in
+    let e = frame-only c x h b z l first (a .within 0) (a .full 0) in
+    let i = only-from c z hs bs zs ls (omega arith) (omega arith) (omega arith)
+    (record {
+      balanced =
+          λ j. behind x z (lastFrom z (take j zs)) h (total (take j hs)) b (total (take j bs)) l
+          (total (take j ls)) first (a .balanced (suc j));
+      within = λ j. a .within (suc j);
+      full = λ j. a .full (suc j);
+    }) in (
+      ap (λ (t : List ℤ). z ∷ t) (i .0) ∙ ap (λ (t : TracedEnd). t .charge ∷ traceFrom c (t .charge) hs bs) e,
+      ap (λ (t : List ℕ). l ∷ t) (i .1) ∙ ap (λ (t : TracedEnd). t .lost ∷ traceLossesFrom c (t .charge) hs bs) e,
+    )
+
+pub accounted-only : (r : Request) (bs : List ℕ) (zs : List ℤ) (ls : List ℕ) → length bs ≡ frameCount r →
+    length zs ≡ frameCount r → length ls ≡ frameCount r → Accounted r bs zs ls →
+    (zs ≡ trace r bs) × (ls ≡ traceLosses r bs)
+accounted-only r bs zs ls k m n a =
+    only-from (r .figures .capacity) (pos (r .figures .start)) (r .harvest) bs zs ls k m n
+    (record { balanced = a .balanced; within = a .within; full = a .full })
+
+-- no frame loses more than its harvest
+lost-from : (c : ℕ) (x : ℤ) (hs bs : List ℕ) → up x ≤ c → (i : ℕ) →
+    getD (traceLossesFrom c x hs bs) i 0 ≤ getD hs i 0
+lost-from c x [] bs l i = omega arith
+lost-from c x (h ∷ hs) [] l i = omega arith
+lost-from c x (h ∷ hs) (b ∷ bs) l zero = lost-within-harvest c x h b l
+lost-from c x (h ∷ hs) (b ∷ bs) l (suc i) =
+    lost-from c (tracedEnd c x h b .charge) hs bs (part-within-capacity c x h b) i
+
+pub losses-within : (r : Request) (bs : List ℕ) → r .figures .start ≤ r .figures .capacity → (i : ℕ) →
+    getD (traceLosses r bs) i 0 ≤ getD (r .harvest) i 0
+losses-within r bs l = lost-from (r .figures .capacity) (pos (r .figures .start)) (r .harvest) bs l

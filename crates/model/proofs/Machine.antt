@@ -77,7 +77,7 @@ not-above (pos n) c e = omega (arith, leb-false c n e)
 not-above (negsuc n) c e = refl
 
 -- what a frame ends with as a record
-abbrev ended : ℤ → ℕ → TracedEnd
+abbrev pub ended : ℤ → ℕ → TracedEnd
 ended y l = record { charge = y; lost = l }
 
 -- the machine's end of a frame; its numbers are in range

@@ -29,16 +29,16 @@ min-by a b false e = let l = leb-false a b e in ap pos (omega arith)
 pub min-pos : (a b : ℕ) → minZ (pos a) (pos b) ≡ pos (min a b)
 min-pos a b = min-by a b (leb a b) refl
 
--- a budget within what is at hand leaves the charge of the frame rule
-after-within : (c x h b : ℕ) → b ≤ atHand c x h → tracedEnd c (pos x) h b .charge ≡ pos (frameEnd c x h b .charge)
-after-within c x h b l = ap (minZ (pos c)) (int.minus-pos (atHand c x h) b l) ∙ min-pos c (atHand c x h - b)
-
--- and loses what the frame rule loses: where the budget is at hand, the traced end is the frame rule's
+-- where the budget is at hand, the traced end is the frame rule's
 pub traced-within : (c x h b : ℕ) → b ≤ atHand c x h →
     tracedEnd c (pos x) h b ≡ record { charge = pos (frameEnd c x h b .charge); lost = frameEnd c x h b .lost }
 traced-within c x h b l =
     ap (λ (z : ℤ). record { charge = minZ (pos c) z; lost = excess z c }) (int.minus-pos (atHand c x h) b l)
     ∙ ap (λ (z : ℤ). record { charge = z; lost = frameEnd c x h b .lost }) (min-pos c (atHand c x h - b))
+
+-- so it leaves the charge of the frame rule
+after-within : (c x h b : ℕ) → b ≤ atHand c x h → tracedEnd c (pos x) h b .charge ≡ pos (frameEnd c x h b .charge)
+after-within c x h b l = ap (λ (e : TracedEnd). e .charge) (traced-within c x h b l)
 
 -- a budget above it leaves a charge below zero
 after-over : (c x h b : ℕ) → atHand c x h < b → tracedEnd c (pos x) h b .charge ≡ negsuc (b - suc (atHand c x h))
@@ -120,7 +120,7 @@ traced-from c e x (h ∷ hs) (b ∷ bs) f =
     ∙ ap (λ (zs : List TracedEnd). inTrace a ∷ zs) (traced-from c e (a .charge) hs bs (p .1))
 
 -- what each frame of a request ends with
-abbrev ends : Request → List ℕ → List FrameEnd
+abbrev pub ends : Request → List ℕ → List FrameEnd
 ends r bs = endsFrom (r .figures .capacity) (r .figures .start) (r .harvest) bs
 
 traced-ends : (r : Request) (bs : List ℕ) → feasible r bs ≡ true →

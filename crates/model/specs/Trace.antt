@@ -3,7 +3,7 @@ use mathlib.Core.Path.{_≡_}
 use mathlib.Core.Bool.{true, false}
 use mathlib.Core.List.{List, [], _∷_, map}
 use lib.IntN.{ℤ, pos, negsuc, _+ℤ_, _-ℤ_}
-use lib.Signed.{leZ, nonNeg}
+use lib.Signed.{_≤ℤ_, leZ, nonNeg}
 use Prim.Native.Nat.{ℕ, zero, suc, _+_, _-_, _<_}
 use lib.Dec.{leb}
 use lib.ListN.{length, getD, take}
@@ -62,17 +62,18 @@ abbrev pub lastFrom : ℤ → List ℤ → ℤ
 lastFrom x [] = x
 lastFrom x (z ∷ zs) = lastFrom z zs
 
--- charges zs and losses ls leave no unit out: after any number n of frames start plus the harvests so far is the charge
--- plus the budgets so far plus the losses so far
-abbrev pub Balanced : Request → List ℕ → List ℤ → List ℕ → Type 0
-Balanced r bs zs ls =
-    (n : ℕ) →
-    pos (r .figures .start + total (take n (r .harvest)))
-    ≡ lastFrom (pos (r .figures .start)) (take n zs) +ℤ pos (total (take n bs) + total (take n ls))
-
--- a frame that loses leaves the store full, so that below zero nothing is lost
-abbrev pub LostWhenFull : Request → List ℤ → List ℕ → Type 0
-LostWhenFull r zs ls = (i : ℕ) → 0 < getD ls i 0 → getD zs i (pos 0) ≡ pos (r .figures .capacity)
+-- what charges zs and losses ls of budgets bs mean. Nothing but the trace has this meaning, which is a theorem
+-- (proofs/Losses.antt)
+pub record Accounted (r : Request) (bs : List ℕ) (zs : List ℤ) (ls : List ℕ) : Type 0 where
+  -- no unit is left out: after any number n of frames start plus the harvests so far is the charge plus the budgets so
+  -- far plus the losses so far
+  pub balanced : (n : ℕ) →
+      pos (r .figures .start + total (take n (r .harvest)))
+      ≡ lastFrom (pos (r .figures .start)) (take n zs) +ℤ pos (total (take n bs) + total (take n ls))
+  -- no charge is above the capacity
+  pub within : (i : ℕ) → getD zs i (pos 0) ≤ℤ pos (r .figures .capacity)
+  -- only a full store loses, so that below zero nothing is lost
+  pub full : (i : ℕ) → 0 < getD ls i 0 → getD zs i (pos 0) ≡ pos (r .figures .capacity)
 
 -- document 01's verdict on a supplied list
 pub data Verdict : Type 0 where

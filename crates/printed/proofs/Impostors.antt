@@ -1,11 +1,12 @@
 -- Texts that look sensible and that are no listing, each of document 01's request with harvest 1, 2.
-use mathlib.Core.Path.{_≡_, refl, ap}
+use mathlib.Core.Path.{_≡_, refl, ap, _∙_}
 use mathlib.Core.List.{List, [], _∷_}
 use Prim.Native.Nat.{ℕ}
 use native.Mathlib.Omega.{arith}
 use lib.ListN.{getD}
 use Rattle.model.specs.declared.Refusal.{Refusal}
 use Rattle.model.specs.Request.{Request, request, figures}
+use Rattle.model.specs.Charge.{losses}
 use Rattle.model.specs.Frames.{reserve, largest, budget, plan, requirement, peak}
 use Rattle.model.specs.Plan.{framesOf, planOf, openPlan, neededOf}
 use Rattle.model.proofs.Request.{plan-demand}
@@ -25,6 +26,10 @@ pub other-budgets-refused : (g : Shown) → Paired g → ListMeans asked (showin
 unfolding planOf plan framesOf budget largest reserve
 other-budgets-refused g l m =
     plan-demand asked (omega arith) (omega arith) .only-plan (g .budgets) (m .right g (l, refl) .plan)
+
+-- no text that shows other losses
+pub other-losses-refused : (g : Shown) → Paired g → ListMeans asked (showing g) → g .losses ≡ 0 ∷ 0 ∷ []
+other-losses-refused g l m = m .right g (l, refl) .lost ∙ ap (losses asked) (other-budgets-refused g l m)
 
 -- no text that shows another needed capacity: start plus all harvest, or the capacity
 pub other-needed-refused : (g : Shown) → Paired g → ListMeans asked (showing g) → g .needed ≡ 0

@@ -17,7 +17,7 @@ use Rattle.model.specs.Plan.{planOf}
 use Rattle.model.proofs.Needed.{needed-is}
 use Rattle.model.proofs.Refusals.{NotNine, plan-nine}
 use Rattle.model.proofs.Request.{plan-is, out-of-reach}
-use Rattle.model.proofs.Trace.{feasible-length}
+use Rattle.model.proofs.Trace.{ends, feasible-length}
 use Rattle.request.proofs.Within.{plan-within}
 use Rattle.wordfile.specs.File.{requestIn, readRefusal}
 use Rattle.wordfile.proofs.Refused.{read-small}
@@ -115,7 +115,7 @@ refusal-no-figures f g e =
 
 -- ---- the listing of a request
 
--- a frame ends for each harvest and budget, so that there is a charge and a loss for each
+-- an end for each harvest and budget, so a charge and a loss for each
 ends-length : (c x : ℕ) (hs bs : List ℕ) → length bs ≡ length hs → length (endsFrom c x hs bs) ≡ length bs
 ends-length c x [] [] l = refl
 ends-length c x [] (b ∷ bs) l = absurd (omega arith)
@@ -126,7 +126,7 @@ ends-length c x (h ∷ hs) (b ∷ bs) l = let i = ends-length c (frameEnd c x h 
 pub ends-paired : (q : Request) (bs : List ℕ) → length bs ≡ frameCount q →
     (length (charges q bs) ≡ length bs) × (length (losses q bs) ≡ length bs)
 ends-paired q bs l =
-    let es = endsFrom (q .figures .capacity) (q .figures .start) (q .harvest) bs in
+    let es = ends q bs in
     let n = ends-length (q .figures .capacity) (q .figures .start) (q .harvest) bs l in
     (length-map es (λ (e : FrameEnd). e .charge) ∙ n, length-map es (λ (e : FrameEnd). e .lost) ∙ n)
 

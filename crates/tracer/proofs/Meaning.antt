@@ -16,7 +16,7 @@ use Rattle.model.specs.Refusals.{gives, refuses, isNone, traceRefusal}
 use Rattle.model.specs.Trace.{below-zero, end-too-low, is-feasible, belowFrom, lastFrom, trace, verdict, EarliestBelow}
 use Rattle.model.specs.Trace.{traceLosses}
 use Rattle.model.proofs.Trace as model
-use Rattle.model.proofs.Losses.{trace-balanced, trace-full}
+use Rattle.model.proofs.Losses.{trace-accounted}
 use Rattle.model.proofs.Choice.{apart, pick-by}
 use Rattle.request.proofs.Within.{trace-within}
 use Rattle.tracer.specs.declared.TraceAnswer.{TraceAnswer}
@@ -39,8 +39,7 @@ refused q bs xs ls f p e =
       feasible = λ h. absurd (false≢true (sym n ∙ h));
       feasible-charges = λ h. apart (cc);
       feasible-losses = λ h. apart (cc);
-      balanced = λ h. absurd (false≢true (sym n ∙ h));
-      lost-when-full = λ h. absurd (false≢true (sym n ∙ h));
+      accounted = λ h. absurd (false≢true (sym n ∙ h));
       earliest = λ k h. apart (cc);
       too-low = λ h. apart (cc);
     }
@@ -117,8 +116,7 @@ traced q bs xs ys ls ms r n p o e =
       feasible = λ h. ((λ a. m .0 (cc)), (λ a. said-feasible r (v ∙ ap gives (m .1 a))));
       feasible-charges = λ a. p ∙ model.trace-charges q bs (m .0 (cc));
       feasible-losses = λ a. o ∙ model.trace-losses q bs (m .0 (cc));
-      balanced = λ h. rw (p, o) (trace-balanced q bs (w .budgets));
-      lost-when-full = λ h. rw (p, o) (trace-full q bs);
+      accounted = λ h. rw (p, o) (trace-accounted q bs (w .budgets));
       earliest = λ k a. earliest-of q bs ys k (cc) p;
       too-low = λ a. too-low-of q bs ys (cc) p;
     }

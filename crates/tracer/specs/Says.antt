@@ -14,7 +14,7 @@ use Rattle.model.specs.Request.{Request}
 use Rattle.model.specs.Charge as C
 use Rattle.model.specs.Refusals.{Outcome, gives, refuses, outcome, isNone, traceRefusal}
 use Rattle.model.specs.Trace.{Verdict, below-zero, end-too-low, is-feasible, belowFrom, lastFrom, trace, verdict}
-use Rattle.model.specs.Trace.{EarliestBelow, traceLosses, Balanced, LostWhenFull}
+use Rattle.model.specs.Trace.{EarliestBelow, traceLosses, Accounted}
 use Rattle.tracer.specs.declared.TraceAnswer.{TraceAnswer}
 use Rattle.tracer.specs.declared.TraceAnswer.the-variants.{Feasible, EndTooLow, BelowZero, Refused}
 
@@ -42,9 +42,8 @@ pub record TraceSays (q : Request) (bs : List ℕ) (xs ys : List ℤ) (ls ms : L
       (r ≡ Feasible) ↔ (C.feasible q bs ≡ true)
   pub feasible-charges : r ≡ Feasible → ys ≡ map pos (C.charges q bs)
   pub feasible-losses : r ≡ Feasible → ms ≡ C.losses q bs
-  -- whatever the budgets, charges and losses leave no unit out, and only a full store loses
-  pub balanced : isNone (traceRefusal q (length bs) (length xs) (length ls)) ≡ true → Balanced q bs ys ms
-  pub lost-when-full : isNone (traceRefusal q (length bs) (length xs) (length ls)) ≡ true → LostWhenFull q ys ms
+  -- whatever the budgets, charges and losses account for every unit
+  pub accounted : isNone (traceRefusal q (length bs) (length xs) (length ls)) ≡ true → Accounted q bs ys ms
   -- a frame named is the earliest below zero
   pub earliest : (n : ℕ) → r ≡ BelowZero n → (i : ℕ) × (n ≡ suc i) × EarliestBelow i ys
   -- "end too low": none but the last is below zero, and the last is below the end charge

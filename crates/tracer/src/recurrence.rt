@@ -27,6 +27,7 @@ pub fn fill(
         ≡ traceLosses (request figures (now (harvest .entry))) (now (budgets .entry)) ⌝ }
 {
     let capacity = figures.capacity;
+    // What the last frame ended with; before the first, the start charge and nothing lost.
     let mut end = TracedEnd {
         charge: figures.start as i64,
         lost: 0,

@@ -14,7 +14,8 @@ pub trait Energy {
     /// The needed capacity; the capacity of the figures plays no part.
     fn needed(&self, figures: Figures, harvest: &[u32]) -> Result<u64, Refusal>;
 
-    /// Writes the charge after each frame and what each frame loses, and judges the budgets.
+    /// Writes the charge after each frame and what each frame loses, and judges the budgets. Each list has an entry for
+    /// each frame.
     fn trace(
         &self,
         figures: Figures,

@@ -1,7 +1,7 @@
 //! The proved energy planner for Rust programs: the functions of `libenergy.a`, with answers and refusals as types.
 //!
 //! ```
-//! use energy::{Energy, Figures, Linked};
+//! use energy::{Energy, Figures, Linked, Verdict};
 //!
 //! let figures = Figures { capacity: 5, start: 2, end: 2 };
 //! let harvest = [6, 4, 0, 0, 5, 5];
@@ -9,6 +9,10 @@
 //! Linked.plan(figures, &harvest, &mut budgets)?;
 //! assert_eq!(budgets, [4, 3, 3, 2, 4, 4]);
 //! assert_eq!(Linked.needed(figures, &harvest)?, 6);
+//!
+//! let (mut charges, mut losses) = ([0; 6], [0; 6]);
+//! assert_eq!(Linked.trace(figures, &harvest, &[0; 6], &mut charges, &mut losses)?, Verdict::Feasible);
+//! assert_eq!((charges, losses), ([5; 6], [3, 4, 0, 0, 5, 5]));
 //!
 //! let refusal = Linked.plan(Figures { end: 23, ..figures }, &harvest, &mut budgets).unwrap_err();
 //! assert_eq!((refusal.number(), refusal.p()), (5, 0));

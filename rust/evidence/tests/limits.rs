@@ -238,8 +238,8 @@ fn files_around_the_largest_size() {
     }
 }
 
-/// The most energy is the largest capacity and the largest harvest in every frame, no frame loses more than its harvest,
-/// and no unit earns more than 24.
+/// The most energy is the largest capacity and the largest harvest in every frame, no frame loses more than its
+/// harvest, and no unit earns more than 24.
 #[test]
 fn the_room_of_a_listing_is_that_of_lines_with_the_largest_figures() {
     let energy = u64::from(MAX_CAPACITY) + u64::from(MAX_HARVEST) * MAX_FRAMES as u64;

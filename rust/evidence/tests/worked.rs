@@ -83,6 +83,16 @@ fn a_supplied_list_of_zeros_loses_what_the_store_cannot_take() {
 }
 
 #[test]
+fn a_store_that_was_below_zero_keeps_no_more_than_its_capacity() {
+    for energy in with_reference() {
+        let (mut charges, mut losses) = ([0; 2], [9; 2]);
+        let verdict = energy.trace(figures(5, 0, 0), &[0, 10], &[3, 0], &mut charges, &mut losses);
+        assert_eq!(verdict, Ok(Verdict::BelowZero { frame: 1 }), "{}", energy.name());
+        assert_eq!((charges, losses), ([-3, 5], [0, 2]), "{}", energy.name());
+    }
+}
+
+#[test]
 fn recordings() {
     for energy in with_reference() {
         let shift = energy.shift_start(figures(5, 4, 0), &[0]).expect("a valid request");

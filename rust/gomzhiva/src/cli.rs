@@ -39,7 +39,7 @@ Example:
 
 #[derive(Subcommand, Debug)]
 pub enum Command {
-    /// Print the plan of a request: the budget of each frame, the charge after it and what it loses
+    /// Print the plan of a request: the budget of each frame, the charge after it and what the frame loses
     Plan(PlanArguments),
     /// Print the least capacity that serves every curve as unlimited storage would, whatever the request's capacity
     #[command(after_help = "Example:\n  gomzhiva needed examples/day.txt")]
@@ -47,7 +47,7 @@ pub enum Command {
         #[command(flatten)]
         request: RequestArguments,
     },
-    /// Print the charges that supplied budgets lead to, what each frame loses, and whether they are feasible
+    /// Print the charges that supplied budgets lead to, what each frame loses, and whether the budgets are feasible
     Trace(TraceArguments),
     /// Print what budgets earn by the three house curves
     #[command(after_help = "Example:\n  echo 4 3 3 2 4 4 | gomzhiva grade -")]

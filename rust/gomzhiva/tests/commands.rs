@@ -137,7 +137,7 @@ fn a_trace_has_its_losses_and_its_verdict() {
             "22",
             "4 4 0 -4 -1 2",
             "0 0 0 0 0 0",
-            "6 frames: 20 Wh harvested, 20 Wh budgeted, 0 Wh lost.\n\
+            "6 frames: 20 Wh harvested, 20 Wh budgeted (mean 3.3, most 4), 0 Wh lost.\n\
              Not feasible: the charge after frame 4 is below zero.\n",
         ),
         (
@@ -145,7 +145,7 @@ fn a_trace_has_its_losses_and_its_verdict() {
             "5",
             "4 5 2 0 1 2",
             "0 0 0 0 0 0",
-            "6 frames: 20 Wh harvested, 20 Wh budgeted, 0 Wh lost.\n\
+            "6 frames: 20 Wh harvested, 20 Wh budgeted (mean 3.3, most 4), 0 Wh lost.\n\
              Feasible: the charge ends at 2 Wh, and 2 Wh were asked for.\n",
         ),
         (
@@ -153,7 +153,7 @@ fn a_trace_has_its_losses_and_its_verdict() {
             "5",
             "4 5 2 0 1 1",
             "0 0 0 0 0 0",
-            "6 frames: 20 Wh harvested, 21 Wh budgeted, 0 Wh lost.\n\
+            "6 frames: 20 Wh harvested, 21 Wh budgeted (mean 3.5, most 5), 0 Wh lost.\n\
              Not feasible: the charge ends at 1 Wh, below the end charge of 2 Wh.\n",
         ),
         (
@@ -161,7 +161,7 @@ fn a_trace_has_its_losses_and_its_verdict() {
             "5",
             "5 5 5 5 5 5",
             "3 4 0 0 5 5",
-            "6 frames: 20 Wh harvested, 0 Wh budgeted, 17 Wh lost that the full battery could not take.\n\
+            "6 frames: 20 Wh harvested, 0 Wh budgeted (mean 0.0, most 0), 17 Wh lost that the full battery could not take.\n\
              Feasible: the charge ends at 5 Wh, and 2 Wh were asked for.\n",
         ),
     ] {
@@ -512,7 +512,7 @@ fn pictures_are_drawn_into_files_and_on_standard_output() {
     }
     for (budgets, name) in [
         ("4 4 4 4 2 2", "overdrawn"),
-        ("0 0 0 0 0 0", "lost harvest: the battery is full (17 Wh in all)"),
+        ("0 0 0 0 0 0", "of it lost to a full battery (17 Wh in all)"),
     ] {
         let arguments = ["trace", "day.txt", "-", "--chart", "trace.svg"];
         assert_eq!(folder.run_with(&arguments, budgets.as_bytes()).status, Some(0));

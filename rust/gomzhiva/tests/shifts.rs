@@ -162,10 +162,31 @@ fn a_picture_shows_what_happened_and_what_is_planned() {
         "Shift: 2 of 6 frames recorded",
         "recorded up to frame 2, planned from frame 3",
         "now",
-        "lost harvest: the battery is full (7 Wh in all)",
+        "of it lost to a full battery (7 Wh in all)",
     ] {
         assert!(text.contains(name), "{name}");
     }
+    // The striped part of frame 2, the last one recorded: left of now by less than its own width.
+    let (lost, now) = (
+        number_behind(&text, "url(#lost)", "x"),
+        number_behind(&text, "\nnow\n", "x"),
+    );
+    let width = number_behind(&text, "url(#lost)", "width");
+    assert!((now - width..now).contains(&(lost + width)), "{lost} {width} {now}");
+}
+
+/// A number in the last tag of a picture that has this text in it or behind it.
+fn number_behind(picture: &str, text: &str, name: &str) -> i32 {
+    let end = picture.rfind(text).expect("the text stands in the picture");
+    let tag = &picture[picture[..end].rfind('<').expect("a tag")..];
+    let value = tag
+        .split(&format!(" {name}=\""))
+        .nth(1)
+        .and_then(|rest| rest.split('"').next());
+    value
+        .expect("the number stands in the tag")
+        .parse()
+        .expect("a whole number")
 }
 
 /// The calls in a journal, without their checksums.

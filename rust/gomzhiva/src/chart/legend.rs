@@ -69,10 +69,7 @@ impl Legend {
         let budgets = format!("{} ({} Wh in all)", budget_name(picture), total(picture.budgets));
         let mut entries = vec![(Mark::Harvest, harvest), (Mark::Budget, budgets)];
         if picture.is_losing() {
-            let lost = format!(
-                "lost harvest: the battery is full ({} Wh in all)",
-                total(picture.losses)
-            );
+            let lost = format!("of it lost to a full battery ({} Wh in all)", total(picture.losses));
             entries.push((Mark::Lost, lost));
         }
         Legend {

@@ -78,26 +78,29 @@ pub fn harvest_bars(page: &Page<'_>, corners: &[Point]) -> Drawn {
     page.draw(&Polygon::new(corners, HARVEST))
 }
 
-/// A part of a bar, which `striped` gives its stripes.
+/// A part of a bar, which `striped` gives its stripes and its outline.
 pub fn lost_part(page: &Page<'_>, corner: Point, opposite: Point) -> Drawn {
     page.draw(&Rectangle::new([corner, opposite], LOST.filled()))
 }
 
-/// The SVG with stripes for what is lost, which the backend only fills: they differ from a plain colour in grey print too.
+/// The SVG with stripes and an outline for what is lost, which the backend only fills: told from a plain colour in grey
+/// print too.
 pub fn striped(svg: &str) -> String {
     let RGBColor(red, green, blue) = LOST;
     let colour = format!("#{red:02X}{green:02X}{blue:02X}");
-    let filled = format!("fill=\"{colour}\"");
+    let filled = format!("fill=\"{colour}\" stroke=\"none\"");
     if !svg.contains(&filled) {
         return svg.to_string();
     }
     let stripes = format!(
-        "<pattern id=\"lost\" width=\"32\" height=\"32\" patternUnits=\"userSpaceOnUse\" patternTransform=\"rotate(45)\">\n\
+        "<pattern id=\"lost\" width=\"32\" height=\"32\" patternUnits=\"userSpaceOnUse\" \
+         patternTransform=\"rotate(45)\">\n\
          <rect width=\"32\" height=\"32\" fill=\"#E6DAEE\"/>\n\
-         <rect width=\"13\" height=\"32\" {filled}/>\n\
+         <rect width=\"13\" height=\"32\" fill=\"{colour}\"/>\n\
          </pattern>\n"
     );
-    let svg = svg.replace(&filled, &format!("fill=\"url(#lost) {colour}\""));
+    let outlined = format!("fill=\"url(#lost) {colour}\" stroke=\"{colour}\" stroke-width=\"5\"");
+    let svg = svg.replace(&filled, &outlined);
     svg.replacen(">\n", &format!(">\n{stripes}"), 1)
 }
 

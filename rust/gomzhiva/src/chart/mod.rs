@@ -1,4 +1,4 @@
-//! Draws a plan on a page: the charge above, harvest and budgets below.
+//! Draws a plan on a page: the charge above, harvest, losses and budgets below.
 
 mod legend;
 mod marks;
@@ -250,29 +250,37 @@ mod tests {
 
     #[test]
     fn what_a_frame_loses_is_the_upper_part_of_its_bar() {
-        for (frames, loss) in [(1, 7), (6, 1), (96, 6), (MAX_FRAMES, 3)] {
-            let text = even_svg(frames, (7, 0, 9, loss), PLAN);
+        for frames in [1, 6, 96, MAX_FRAMES] {
+            let losses: Vec<u32> = (0..frames as u32).map(|frame| 7 - frame % 8).collect();
+            let text = svg(&Picture {
+                harvest: &vec![7; frames],
+                budgets: &vec![0; frames],
+                charges: &vec![9; frames],
+                losses: &losses,
+                ..PLAN
+            });
             let parts = lost_parts(&text);
-            assert_eq!(
-                parts.len(),
-                1 + frames,
-                "a mark in the legend, and a part for each frame"
-            );
             let outlines = outlines(&text);
-            let bars = outlines[outlines.len() - 2].chunks(4);
-            for ([corner, opposite], bar) in parts[1..].iter().zip(bars) {
+            let bars = outlines[outlines.len() - 2].chunks(4).zip(losses);
+            let losing: Vec<_> = bars.filter(|&(_, loss)| loss > 0).collect();
+            assert_eq!(parts.len(), 1 + losing.len(), "a mark in the legend, and losing frames");
+            for ([corner, opposite], (bar, loss)) in parts[1..].iter().zip(losing) {
                 assert_eq!((*corner, opposite.0), (bar[1], bar[2].0));
                 let (height, lost) = (bar[0].1 - bar[1].1, opposite.1 - corner.1);
                 assert!((lost * 7 - height * loss as i32).abs() <= 7, "{lost} of {height}");
             }
+            assert!(
+                text.rfind("url(#lost)") < text.rfind("<polyline"),
+                "the budgets lie above"
+            );
         }
     }
 
     #[test]
     fn a_loss_is_drawn_and_named_where_there_is_one() {
         let text = svg(&PLAN);
-        assert_eq!(lost_parts(&text).len(), 2, "in the legend, and in frame 4");
-        assert!(text.contains("\nlost harvest: the battery is full (1 Wh in all)\n"));
+        assert_eq!(lost_parts(&text).len(), 2, "in the legend, and in the frame that loses");
+        assert!(text.contains("\nof it lost to a full battery (1 Wh in all)\n"));
         let none = svg(&Picture {
             losses: &[0; 6],
             ..PLAN

@@ -5,7 +5,7 @@ use crate::chart::{svg, Picture};
 use crate::cli::ReportArguments;
 use crate::failure::Failure;
 use crate::files::{print, Place};
-use crate::report::{column, frames, Table};
+use crate::report::{column, counted, frames, lost, mean, sum, Table};
 use crate::request::Request;
 use crate::streams::tell;
 use energy::{Energy, Linked, Verdict};
@@ -54,13 +54,27 @@ impl<'a> Budgets<'a> {
         }
     }
 
+    /// What is harvested, budgeted and lost in all, in words.
+    pub fn energies(&self) -> String {
+        let budgets = &self.budgets;
+        format!(
+            "{}: {} Wh harvested, {} Wh budgeted (mean {}, most {}), {}.",
+            counted(budgets.len(), "frame"),
+            sum(&self.request.harvest),
+            sum(budgets),
+            mean(budgets),
+            budgets.iter().max().unwrap_or(&0),
+            lost(&self.losses),
+        )
+    }
+
     /// The charge after the last frame.
     pub fn last_charge(&self) -> i64 {
         self.charges.last().copied().unwrap_or_default()
     }
 
-    /// Shows table, CSV or picture as the arguments ask. The words close the table; where they have no place, the warning is
-    /// told on standard error.
+    /// Shows table, CSV or picture as the arguments ask. The words close the table; where they have no place, the
+    /// warning is told on standard error.
     pub fn show(&self, report: &ReportArguments, shown: &Shown<'_>) -> Result<(), Failure> {
         let only_picture = report.draws_on_standard_output();
         if only_picture && report.table.csv {

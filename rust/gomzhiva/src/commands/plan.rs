@@ -5,7 +5,7 @@ use super::worth;
 use crate::cli::PlanArguments;
 use crate::failure::Failure;
 use crate::files::print;
-use crate::report::{capitalised, counted, lost, mean, sum};
+use crate::report::capitalised;
 use crate::request::{Draft, Request};
 use energy::{Energy, Linked, Refusal, LISTING_BYTES};
 
@@ -53,23 +53,17 @@ fn refusal_in(listing: &str) -> Option<Refusal> {
 /// The plan in words.
 fn summary(request: &Request, plan: &Budgets<'_>) -> Result<String, Failure> {
     let figures = request.figures;
-    let budgets = &plan.budgets;
     let needed = Linked.needed(figures, &request.harvest)?;
     Ok(format!(
-        "{}: {} Wh harvested, {} Wh budgeted (mean {}, most {}), {}.\n\
+        "{}\n\
          The charge goes from {} to {} Wh, and is at most {} Wh after a frame, of a capacity of {} Wh.\n\
          A capacity of {needed} Wh would serve every curve as well as unlimited storage.\n\
          {}.",
-        counted(budgets.len(), "frame"),
-        sum(&request.harvest),
-        sum(budgets),
-        mean(budgets),
-        budgets.iter().max().unwrap_or(&0),
-        lost(&plan.losses),
+        plan.energies(),
         figures.start,
         plan.last_charge(),
         plan.charges.iter().max().unwrap_or(&0),
         figures.capacity,
-        capitalised(&worth(budgets)?),
+        capitalised(&worth(&plan.budgets)?),
     ))
 }

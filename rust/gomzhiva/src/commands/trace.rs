@@ -3,7 +3,7 @@
 use super::budgets::{Budgets, Shown};
 use crate::cli::TraceArguments;
 use crate::failure::Failure;
-use crate::report::{counted, ending, lost, sum};
+use crate::report::{counted, ending};
 use crate::request::read_budgets;
 use energy::{Refusal, Verdict};
 
@@ -34,22 +34,11 @@ pub fn run(arguments: &TraceArguments) -> Result<(), Failure> {
     let verdict = verdict(&traced);
     let shown = Shown {
         title: &title,
-        words: &format!("{}\n{verdict}", summary(&traced)),
+        words: &format!("{}\n{verdict}", traced.energies()),
         warning: (!is_feasible).then_some(verdict.as_str()),
         inputs: &[&arguments.request.request, &arguments.budgets],
     };
     traced.show(&arguments.report, &shown)
-}
-
-/// The energies in words.
-fn summary(traced: &Budgets<'_>) -> String {
-    format!(
-        "{}: {} Wh harvested, {} Wh budgeted, {}.",
-        counted(traced.budgets.len(), "frame"),
-        sum(&traced.request.harvest),
-        sum(&traced.budgets),
-        lost(&traced.losses),
-    )
 }
 
 /// The verdict in words.

@@ -34,6 +34,10 @@ charges f = f .fill .last .1 .1 .1 .0
 abbrev losses : tie.After-fill → List ℕ
 losses f = f .fill .last .1 .1 .1 .1 .0
 
+-- the lists filled, from the first line written
+abbrev filled : tie.After-put-first → tie.After-fill
+filled x = x .before .before .before .before .before .before .before .before
+
 few : (p : tie.After-write-plan) → length (budgets p) ≤ maxFrames
 few p = law.budgets-few (asked (start p)) (accepted (start p)) (budgets p) (p .write-plan .ensures)
 
@@ -49,7 +53,8 @@ fill-requires c κs =
 
 put-frames-requires : tie.Need-put-frames-requires
 put-frames-requires c κs =
-    let f = c .before .before .before .before .before .before .before .before .before .before .before .before .before .before in
+    let x = c .before .before .before .before .before .before in
+    let f = filled x in
     let p = planned f in
     let q = asked (start p) in
     let w = accepted (start p) in
@@ -70,7 +75,7 @@ returns c =
     let y = z .before .before .before .before in
     let x = y .before .before .before .before .before .before .before in
     let s = x .before .before .before in
-    let f = s .before .before .before .before .before in
+    let f = filled x in
     let p = planned f in
     let n = p .before .before in
     puts-first

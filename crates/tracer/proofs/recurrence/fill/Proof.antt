@@ -1,19 +1,17 @@
--- Charges and losses written so far and those of the rest stay the whole trace's; no frame moves the charge by 2^34, and
--- none leaves it above the capacity, so that a loss is at most a harvest.
+-- Charges and losses written so far and those of the rest stay the whole trace's; no frame moves the charge by 2^34,
+-- and none leaves it above the capacity, so that a loss is at most a harvest.
 use mathlib.Core.List.{_++_}
 use mathlib.Core.Path.{refl, _≡_, ap, sym, _∙_}
 use Prim.Native.Nat.{_<_, _≤_, _-_, _+_, _*_, _^_}
 use native.Mathlib.Omega.{arith}
 use lib.ListN.{getD, length-set, length, drop, take}
 use lib.Signed.{mag}
-use mir.Val.{Fits}
-use mir.Syntax.{w32}
 use borrow.Author.Needs.{needs}
 use Rattle.model.specs.Trace.{tracedEnd, traceFrom, traceLossesFrom}
 use Rattle.model.specs.declared.frame.TracedEnd.{TracedEnd}
 use Rattle.model.proofs.Integers.{up}
 use Rattle.model.proofs.Machine as one
-use Rattle.model.proofs.Losses.{after-within-capacity, lost-within-harvest}
+use Rattle.model.proofs.Losses.{part-within-capacity, lost-within-harvest}
 use Rattle.tracer.proofs.Frames as law
 use Rattle.tracer.proofs.recurrence.fill.Statement.{statement}
 use Rattle.tracer.proofs.recurrence.fill.Tie as tie
@@ -93,7 +91,7 @@ loop-again c =
     let h = f .before .before .before .shared-slice-known3 .given i in
     let b = f .before .before .shared-slice-known4 .given i in
     let moved = one.after-small k x (getD hs i 0) (getD bs i 0) (omega arith) (omega arith) (omega arith) in
-    let within = after-within-capacity k x (getD hs i 0) (getD bs i 0) in
+    let within = part-within-capacity k x (getD hs i 0) (getD bs i 0) in
     let size = ap (λ (t : TracedEnd). mag (t .charge)) (ended f) in
     let part = ap (λ (t : TracedEnd). up (t .charge)) (ended f) in
     rw (one.back (e .charge) (omega arith)) (
