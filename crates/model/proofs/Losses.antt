@@ -1,15 +1,15 @@
 -- What charges and losses of a trace mean: no unit is left out, no charge is above the capacity, and only a full store
--- loses. Nothing else has that meaning, and no frame loses more than its harvest.
+-- loses. No other lists have that meaning, and no frame loses more than its harvest.
 use mathlib.Core.Path.{_≡_, refl, sym, ap, _∙_}
 use mathlib.Core.List.{List, [], _∷_}
 use Prim.Native.Nat.{ℕ, zero, suc, _+_, _-_, _≤_, _<_, min}
 use native.Mathlib.Omega.{arith}
-use lib.ListN.{length, getD, take}
+use lib.ListN.{length, getD, take, length-map}
 use lib.IntN.{ℤ, pos, negsuc, _+ℤ_, _-ℤ_, +ℤ-idr}
 use lib.Signed.{_≤ℤ_}
 use Rattle.model.specs.Request.{Request, total, frameCount}
 use Rattle.model.specs.Trace.{minZ, excess, atHandZ, tracedEnd, traceFrom, trace, traceLossesFrom, traceLosses}
-use Rattle.model.specs.Trace.{lastFrom, Accounted}
+use Rattle.model.specs.Trace.{tracedFrom, lastFrom, AccountedFrom, Accounted}
 use Rattle.model.specs.declared.frame.TracedEnd.{TracedEnd}
 use Rattle.model.proofs.Integers.{up, down, plus-parts, minus-parts, one-side, parts-eq, parts-le}
 use Rattle.model.proofs.Integers.{pos-le, le-pos, up-mono}
@@ -101,13 +101,6 @@ frame-only c x h b z l p m f =
 
 -- ---- all frames
 
--- what it is to account for every unit, from charge x
-record AccountedFrom (c : ℕ) (x : ℤ) (hs bs : List ℕ) (zs : List ℤ) (ls : List ℕ) : Type 0 where
-  balanced : (n : ℕ) →
-      x +ℤ pos (total (take n hs)) ≡ lastFrom x (take n zs) +ℤ pos (total (take n bs) + total (take n ls))
-  within : (i : ℕ) → getD zs i (pos 0) ≤ℤ pos c
-  full : (i : ℕ) → 0 < getD ls i 0 → getD zs i (pos 0) ≡ pos c
-
 -- after one frame that balances, the frames behind it do exactly where all of them do
 module _ (x y z : ℤ) (h hs b bs l ls : ℕ) (frame : x +ℤ pos h ≡ y +ℤ pos (b + l)) where
   -- both sides differ by as much behind the frame as from it on
@@ -134,7 +127,7 @@ module _ (x y z : ℤ) (h hs b bs l ls : ℕ) (frame : x +ℤ pos h ≡ y +ℤ p
   behind : x +ℤ pos (h + hs) ≡ z +ℤ pos (b + bs + (l + ls)) → y +ℤ pos hs ≡ z +ℤ pos (bs + ls)
   behind q = parts-eq (y +ℤ pos hs) (z +ℤ pos (bs + ls)) (omega (arith, same-difference, ap up q, ap down q))
 
--- a trace accounts for every unit
+-- a trace leaves no unit out
 balanced-from : (c : ℕ) (x : ℤ) (n : ℕ) (hs bs : List ℕ) → length bs ≡ length hs →
     x +ℤ pos (total (take n hs))
     ≡ lastFrom x (take n (traceFrom c x hs bs)) +ℤ pos (total (take n bs) + total (take n (traceLossesFrom c x hs bs)))
@@ -148,12 +141,14 @@ balanced-from c x (suc n) (h ∷ hs) (b ∷ bs) l =
     (total (take n bs)) (e .lost) (total (take n (traceLossesFrom c (e .charge) hs bs))) (frame-balance c x h b)
     (balanced-from c (e .charge) n hs bs (omega arith))
 
+-- has no charge above the capacity
 within-from : (c : ℕ) (x : ℤ) (hs bs : List ℕ) (i : ℕ) → getD (traceFrom c x hs bs) i (pos 0) ≤ℤ pos c
 within-from c x [] bs i = pos-le 0 c (omega arith)
 within-from c x (h ∷ hs) [] i = pos-le 0 c (omega arith)
 within-from c x (h ∷ hs) (b ∷ bs) zero = after-within-capacity c x h b
 within-from c x (h ∷ hs) (b ∷ bs) (suc i) = within-from c (tracedEnd c x h b .charge) hs bs i
 
+-- loses only where the store is full
 full-from : (c : ℕ) (x : ℤ) (hs bs : List ℕ) (i : ℕ) → 0 < getD (traceLossesFrom c x hs bs) i 0 →
     getD (traceFrom c x hs bs) i (pos 0) ≡ pos c
 full-from c x [] bs i l = absurd (omega arith)
@@ -161,35 +156,47 @@ full-from c x (h ∷ hs) [] i l = absurd (omega arith)
 full-from c x (h ∷ hs) (b ∷ bs) zero l = full-after c (atHandZ c x h -ℤ pos b) l
 full-from c x (h ∷ hs) (b ∷ bs) (suc i) l = full-from c (tracedEnd c x h b .charge) hs bs i l
 
-pub trace-accounted : (r : Request) (bs : List ℕ) → length bs ≡ frameCount r →
-    Accounted r bs (trace r bs) (traceLosses r bs)
-trace-accounted r bs l =
-    let c = r .figures .capacity in
-    let x = pos (r .figures .start) in
+-- and has an end for each frame
+long-from : (c : ℕ) (x : ℤ) (hs bs : List ℕ) → length bs ≡ length hs → length (tracedFrom c x hs bs) ≡ length hs
+long-from c x [] bs l = refl
+long-from c x (h ∷ hs) [] l = absurd (omega arith)
+long-from c x (h ∷ hs) (b ∷ bs) l = ap suc (long-from c (tracedEnd c x h b .charge) hs bs (omega arith))
+
+-- so it accounts for everything
+pub accounted-from : (c : ℕ) (x : ℤ) (hs bs : List ℕ) → length bs ≡ length hs →
+    AccountedFrom c x hs bs (traceFrom c x hs bs) (traceLossesFrom c x hs bs)
+accounted-from c x hs bs l =
+    let es = tracedFrom c x hs bs in
     record {
-      balanced = λ n. balanced-from c x n (r .harvest) bs l;
-      within = within-from c x (r .harvest) bs;
-      full = full-from c x (r .harvest) bs;
+      charges-long = length-map es (λ (e : TracedEnd). e .charge) ∙ long-from c x hs bs l;
+      losses-long = length-map es (λ (e : TracedEnd). e .lost) ∙ long-from c x hs bs l;
+      balanced = λ n. balanced-from c x n hs bs l;
+      within = within-from c x hs bs;
+      full = full-from c x hs bs;
     }
 
--- and nothing else does
+pub trace-accounted : (r : Request) (bs : List ℕ) → length bs ≡ frameCount r →
+    Accounted r bs (trace r bs) (traceLosses r bs)
+trace-accounted r bs l = accounted-from (r .figures .capacity) (pos (r .figures .start)) (r .harvest) bs l
+
+-- and no other lists do
 only-from : (c : ℕ) (x : ℤ) (hs bs : List ℕ) (zs : List ℤ) (ls : List ℕ) → length bs ≡ length hs →
-    length zs ≡ length hs → length ls ≡ length hs → AccountedFrom c x hs bs zs ls →
-    (zs ≡ traceFrom c x hs bs) × (ls ≡ traceLossesFrom c x hs bs)
-only-from c x [] [] [] [] k m n a = (refl, refl)
-only-from c x [] (b ∷ bs) zs ls k m n a = absurd (omega arith)
-only-from c x [] [] (z ∷ zs) ls k m n a = absurd (omega arith)
-only-from c x [] [] [] (l ∷ ls) k m n a = absurd (omega arith)
-only-from c x (h ∷ hs) [] zs ls k m n a = absurd (omega arith)
-only-from c x (h ∷ hs) (b ∷ bs) [] ls k m n a = absurd (omega arith)
-only-from c x (h ∷ hs) (b ∷ bs) (z ∷ zs) [] k m n a = absurd (omega arith)
-only-from c x (h ∷ hs) (b ∷ bs) (z ∷ zs) (l ∷ ls) k m n a =
+    AccountedFrom c x hs bs zs ls → (zs ≡ traceFrom c x hs bs) × (ls ≡ traceLossesFrom c x hs bs)
+only-from c x [] bs [] [] k a = (refl, refl)
+only-from c x [] bs (z ∷ zs) ls k a = absurd (omega (arith, a .charges-long))
+only-from c x [] bs [] (l ∷ ls) k a = absurd (omega (arith, a .losses-long))
+only-from c x (h ∷ hs) [] zs ls k a = absurd (omega arith)
+only-from c x (h ∷ hs) (b ∷ bs) [] ls k a = absurd (omega (arith, a .charges-long))
+only-from c x (h ∷ hs) (b ∷ bs) (z ∷ zs) [] k a = absurd (omega (arith, a .losses-long))
+only-from c x (h ∷ hs) (b ∷ bs) (z ∷ zs) (l ∷ ls) k a =
     let u : h ≡ h + 0 = omega arith in
     let v : b + 0 + (l + 0) ≡ b + l = omega arith in
     let first = ap (λ (j : ℕ). x +ℤ pos j) u ∙ (a .balanced 1 ∙ ap (λ (j : ℕ). z +ℤ pos j) v) in
     let e = frame-only c x h b z l first (a .within 0) (a .full 0) in
-    let i = only-from c z hs bs zs ls (omega arith) (omega arith) (omega arith)
+    let i = only-from c z hs bs zs ls (omega arith)
     (record {
+      charges-long = omega (arith, a .charges-long);
+      losses-long = omega (arith, a .losses-long);
       balanced =
           λ j. behind x z (lastFrom z (take j zs)) h (total (take j hs)) b (total (take j bs)) l
           (total (take j ls)) first (a .balanced (suc j));
@@ -201,11 +208,9 @@ only-from c x (h ∷ hs) (b ∷ bs) (z ∷ zs) (l ∷ ls) k m n a =
     )
 
 pub accounted-only : (r : Request) (bs : List ℕ) (zs : List ℤ) (ls : List ℕ) → length bs ≡ frameCount r →
-    length zs ≡ frameCount r → length ls ≡ frameCount r → Accounted r bs zs ls →
-    (zs ≡ trace r bs) × (ls ≡ traceLosses r bs)
-accounted-only r bs zs ls k m n a =
-    only-from (r .figures .capacity) (pos (r .figures .start)) (r .harvest) bs zs ls k m n
-    (record { balanced = a .balanced; within = a .within; full = a .full })
+    Accounted r bs zs ls → (zs ≡ trace r bs) × (ls ≡ traceLosses r bs)
+accounted-only r bs zs ls l a =
+    only-from (r .figures .capacity) (pos (r .figures .start)) (r .harvest) bs zs ls l a
 
 -- no frame loses more than its harvest
 lost-from : (c : ℕ) (x : ℤ) (hs bs : List ℕ) → up x ≤ c → (i : ℕ) →

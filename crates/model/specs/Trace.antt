@@ -62,18 +62,23 @@ abbrev pub lastFrom : ℤ → List ℤ → ℤ
 lastFrom x [] = x
 lastFrom x (z ∷ zs) = lastFrom z zs
 
--- what charges zs and losses ls of budgets bs mean. Nothing but the trace has this meaning, which is a theorem
--- (proofs/Losses.antt)
-pub record Accounted (r : Request) (bs : List ℕ) (zs : List ℤ) (ls : List ℕ) : Type 0 where
-  -- no unit is left out: after any number n of frames start plus the harvests so far is the charge plus the budgets so
-  -- far plus the losses so far
+-- what charges zs and losses ls mean, of a store of capacity c from charge x on, with harvests hs and budgets bs. For
+-- any budgets, one for each frame, the trace has this meaning and nothing else has (proofs/Losses.antt)
+pub record AccountedFrom (c : ℕ) (x : ℤ) (hs bs : List ℕ) (zs : List ℤ) (ls : List ℕ) : Type 0 where
+  -- a charge and a loss for each frame
+  pub charges-long : length zs ≡ length hs
+  pub losses-long : length ls ≡ length hs
+  -- no unit is left out: after any number n of frames the charge at first plus the harvests so far is the charge plus
+  -- the budgets so far plus the losses so far
   pub balanced : (n : ℕ) →
-      pos (r .figures .start + total (take n (r .harvest)))
-      ≡ lastFrom (pos (r .figures .start)) (take n zs) +ℤ pos (total (take n bs) + total (take n ls))
+      x +ℤ pos (total (take n hs)) ≡ lastFrom x (take n zs) +ℤ pos (total (take n bs) + total (take n ls))
   -- no charge is above the capacity
-  pub within : (i : ℕ) → getD zs i (pos 0) ≤ℤ pos (r .figures .capacity)
+  pub within : (i : ℕ) → getD zs i (pos 0) ≤ℤ pos c
   -- only a full store loses, so that below zero nothing is lost
-  pub full : (i : ℕ) → 0 < getD ls i 0 → getD zs i (pos 0) ≡ pos (r .figures .capacity)
+  pub full : (i : ℕ) → 0 < getD ls i 0 → getD zs i (pos 0) ≡ pos c
+
+abbrev pub Accounted : Request → List ℕ → List ℤ → List ℕ → Type 0
+Accounted r bs zs ls = AccountedFrom (r .figures .capacity) (pos (r .figures .start)) (r .harvest) bs zs ls
 
 -- document 01's verdict on a supplied list
 pub data Verdict : Type 0 where

@@ -1,13 +1,13 @@
 -- The frames one after another: what is written so far and the trace of the rest are the whole trace.
-use mathlib.Core.Path.{_≡_, refl, ap, _∙_}
-use mathlib.Core.List.{List, [], _∷_, _++_, map, append-assoc, append-nil}
+use mathlib.Core.Path.{_≡_, ap, _∙_}
+use mathlib.Core.List.{List, _∷_, _++_, map, append-assoc, append-nil}
 use Prim.Native.Nat.{ℕ, suc, _+_, _≤_, _<_}
-use native.Mathlib.Omega.{arith}
 use native.Mathlib.Numerals.{add-one}
 use lib.IntN.{ℤ}
 use lib.ListN.{length, getD, take, drop, set, drop-of-length-le}
 use lib.Seq.{drop-cons, take-suc-set, take-all}
 use Rattle.model.specs.Trace.{tracedEnd, tracedFrom, traceFrom}
+use Rattle.model.proofs.Losses.{accounted-from}
 use Rattle.model.specs.declared.frame.TracedEnd.{TracedEnd}
 
 -- a column of what the frames end with: their charges, or their losses
@@ -32,13 +32,7 @@ module _ {A : Type 0} (column : TracedEnd → A) (c : ℕ) (x : ℤ) (i : ℕ) (
       ∙ append-nil (take i written)
       ∙ take-all i written lw
 
--- a trace has one charge for each frame
-pub trace-length : (c : ℕ) (x : ℤ) (hs bs : List ℕ) → length bs ≡ length hs → length (traceFrom c x hs bs) ≡ length hs
-trace-length c x [] bs e = refl
-trace-length c x (h ∷ hs) [] e = let b : ⊥ = omega arith in absurd b
-trace-length c x (h ∷ hs) (b ∷ bs) e = ap suc (trace-length c (tracedEnd c x h b .charge) hs bs (omega arith))
-
--- so have the charges written
+-- charges written as a trace has them are one for each frame
 pub written-length : (c : ℕ) (x : ℤ) (hs bs : List ℕ) (ys : List ℤ) → ys ≡ traceFrom c x hs bs →
     length bs ≡ length hs → length ys ≡ length hs
-written-length c x hs bs ys p e = ap length p ∙ trace-length c x hs bs e
+written-length c x hs bs ys p e = ap length p ∙ accounted-from c x hs bs e .charges-long

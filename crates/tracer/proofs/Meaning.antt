@@ -22,7 +22,6 @@ use Rattle.request.proofs.Within.{trace-within}
 use Rattle.tracer.specs.declared.TraceAnswer.{TraceAnswer}
 use Rattle.tracer.specs.declared.TraceAnswer.the-variants.{Feasible, EndTooLow, BelowZero, Refused}
 use Rattle.tracer.specs.Says.{said, judged, TraceSays}
-use Rattle.tracer.proofs.Frames.{trace-length}
 use Rattle.tracer.proofs.Search.{last-any, none-below}
 
 -- a refusal alters nothing and is answered
@@ -57,7 +56,7 @@ said-judged : (q : Request) (bs : List ℕ) → 1 ≤ frameCount q → length bs
 said-judged q bs l m =
     let zs = trace q bs in
     let k = belowFrom 1 zs in
-    let n = trace-length (q .figures .capacity) (pos (q .figures .start)) (q .harvest) bs m in
+    let n = trace-accounted q bs m .charges-long in
     said-by k (leb 1 k) (leZ (pos (q .figures .end)) (lastFrom (pos 0) zs))
     ∙ ap (λ (z : ℤ). gives
     (pick (leb 1 k) (below-zero k) (pick (leZ (pos (q .figures .end)) z) is-feasible end-too-low)))

@@ -1,14 +1,16 @@
-//! What every trace keeps, whatever the budgets: no unit of energy is left out, and only a full store loses.
+//! What every trace keeps, whatever the budgets: no unit of energy is left out, no charge is above the capacity, and only
+//! a full store loses, no more than the harvest.
 
-use energy::Energy;
+use energy::{Energy, Linked};
 use evidence::cases::Case;
 use evidence::generate::any_trace;
 use evidence::random::{seed, Random};
-use evidence::with_reference;
+use evidence::reference::Reference;
 
-/// What a test has seen: traces that lose, and traces below zero.
+/// What a test has seen: traces that were not refused, of them such that lose, and such below zero.
 #[derive(Default)]
 struct Seen {
+    accepted: u32,
     losing: u32,
     below_zero: u32,
 }
@@ -43,18 +45,24 @@ fn assert_balanced(energy: &dyn Energy, case: &Case, seen: &mut Seen) {
         assert!(losses[i] <= harvest[i], "{}", named());
         assert!(losses[i] == 0 || charge == figures.capacity.into(), "{}", named());
     }
+    seen.accepted += 1;
     seen.losing += u32::from(losses.iter().any(|&loss| loss > 0));
     seen.below_zero += u32::from(charges.iter().any(|&charge| charge < 0));
 }
 
 #[test]
 fn traces_leave_no_unit_out_and_lose_only_when_full() {
-    for energy in with_reference() {
+    for energy in [&Linked as &dyn Energy, &Reference] {
         let mut seen = Seen::default();
         for number in 14_000_000..14_100_000 {
-            assert_balanced(&*energy, &any_trace(&mut Random::of_case(seed(), number)), &mut seen);
+            assert_balanced(energy, &any_trace(&mut Random::of_case(seed(), number)), &mut seen);
         }
-        let Seen { losing, below_zero } = seen;
+        let Seen {
+            accepted,
+            losing,
+            below_zero,
+        } = seen;
+        assert!(accepted > 50_000, "{}: {accepted} traces", energy.name());
         assert!(losing > 1_000, "{}: {losing} traces that lose", energy.name());
         assert!(below_zero > 1_000, "{}: {below_zero} traces below zero", energy.name());
     }
