@@ -1,5 +1,6 @@
--- The cases that document 01 marks with *, in its order, with what document 02 adds to them, then its limits, of frames
--- and bytes as document 02 has them; and what each of them states of the definitions.
+-- The cases that document 01 marks with *, in its order, with what document 02 adds to them and a store that overflows
+-- after it fell below zero; then its limits, of frames and bytes as document 02 has them. And what each of them states
+-- of the definitions.
 use mathlib.Core.Path.{_≡_}
 use mathlib.Core.List.{List, [], _∷_, _++_}
 use lib.IntN.{ℤ, pos, negsuc}
