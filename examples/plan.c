@@ -25,25 +25,26 @@ int main(void)
 {
     const struct EnergyFigures figures = {.capacity = 5, .start = 2, .end = 2};
     const uint32_t harvest[6] = {6, 4, 0, 0, 5, 5};
-    uint32_t budgets[6] = {0};
+    uint32_t least[6], most[6], budgets[6] = {0};
 
-    struct EnergyPlanAnswer plan = energy_plan(figures, harvest, 6, budgets, 6);
+    energy_no_bounds(least, most, 6);
+    struct EnergyPlanAnswer plan = energy_plan(figures, harvest, 6, least, 6, most, 6, budgets, 6);
     if (plan.refusal.number != 0)
         return refused(plan.refusal);
     print_budgets("plan", budgets, 6);
 
-    struct EnergyNeededAnswer needed = energy_needed(figures, harvest, 6);
+    struct EnergyNeededAnswer needed = energy_needed(figures, harvest, 6, least, 6, most, 6);
     if (needed.refusal.number != 0)
         return refused(needed.refusal);
     printf("needed: %" PRIu64 "\n", needed.capacity);
 
-    struct EnergyShiftAnswer start = energy_shift_start(figures, harvest, 6);
+    struct EnergyShiftAnswer start = energy_shift_start(figures, harvest, 6, least, 6, most, 6);
     if (start.refusal.number != 0)
         return refused(start.refusal);
     struct EnergyShiftAnswer next = energy_shift_record(start.shift, 1, 3);
     if (next.refusal.number != 0)
         return refused(next.refusal);
-    struct EnergyRestAnswer rest = energy_shift_plan_rest(next.shift, harvest, 6, budgets, 6);
+    struct EnergyRestAnswer rest = energy_shift_plan_rest(next.shift, harvest, 6, least, 6, most, 6, budgets, 6);
     if (rest.refusal.number != 0)
         return refused(rest.refusal);
     struct EnergyPartAnswer part = energy_shift_rest_part(next.shift, budgets, 6);

@@ -11,8 +11,10 @@ trap 'rm -rf "$folder"' EXIT
 rt check plan >"$folder/build" 2>&1 || { cat "$folder/build"; echo '0 passed, 1 failed'; exit 1; }
 
 # the limits that the header names
-most=$(sed -n 's/^#define ENERGY_MAX_FRAMES \([0-9]*\)$/\1/p' include/energy.h)
-bytes=$((4 * (most + 4)))
+figure() { sed -n "s/^#define ENERGY_$1 \([0-9]*\)\$/\1/p" include/energy.h; }
+most=$(figure MAX_FRAMES)
+other=$(figure OTHER_WORDS)
+bytes=$((4 * ($(figure FRAME_WORDS) * most + other)))
 
 # words as bytes, the lowest byte first: word 9 0x40000001 ..
 word() {
@@ -35,6 +37,10 @@ file() {
     for h in "${@:4}"; do harvests 1 "$h"; done
     word $((0xC0000000 + $# - 3))
 }
+
+# the words of a frame's least and most
+least_word() { word $((0x80000000 + $1)); }
+most_word() { word $((0xA0000000 + $1)); }
 
 plan() { $bin/plan; }
 
@@ -65,6 +71,33 @@ check 'capacity 0' 'frames 1 capacity 0 needed 0
 1 5 0 0
 worth 80 120 25' "$(file 0 0 0 5 | plan)"
 
+# plans within bounds
+check 'most 3 in frame 1' 'frames 6 capacity 5 needed 6
+1 3 5 0
+2 4 5 0
+3 3 2 0
+4 2 0 0
+5 4 1 0
+6 4 2 0
+worth 320 480 100' "$( (word 5 2 2; harvests 1 6; most_word 3; for h in 4 0 0 5 5; do harvests 1 $h; done; word 0xC0000006) | plan)"
+check 'least 3 in frame 4' 'frames 6 capacity 5 needed 6
+1 4 4 0
+2 3 5 0
+3 2 3 0
+4 3 0 0
+5 4 1 0
+6 4 2 0
+worth 320 480 100' "$( (word 5 2 2; for h in 6 4 0 0; do harvests 1 $h; done; least_word 3; harvests 2 5; word 0xC0000006) | plan)"
+check 'most 1 everywhere, least 1 in frame 1' 'frames 6 capacity 5 needed 2
+1 1 5 2
+2 1 5 3
+3 1 4 0
+4 1 3 0
+5 1 5 2
+6 1 5 4
+worth 96 144 30' "$( (word 5 2 2; harvests 1 6; least_word 1; most_word 1; for h in 4 0 0 5 5; do harvests 1 $h; most_word 1; done; word 0xC0000006) | plan)"
+check 'a written least of 0' "$listing" "$( (word 5 2 2; harvests 1 6; least_word 0; for h in 4 0 0 5 5; do harvests 1 $h; done; word 0xC0000006) | plan)"
+
 # files that the plan program refuses
 check 'no byte' 'refused 8 0' "$(printf '' | plan)"
 check 'one byte' 'refused 8 0' "$(printf '\0' | plan)"
@@ -74,7 +107,14 @@ check 'a first word of kind 1' 'refused 8 0' "$(word 0x40000001 | plan)"
 check 'three figures and nothing' 'refused 8 3' "$(word 0 0 0 | plan)"
 check 'three figures, no frames' 'refused 1 0' "$(word 0 0 0 0xC0000000 | plan)"
 check 'a fourth figure' 'refused 8 3' "$(word 9 0 0 9 | plan)"
-check 'a word of kind 2' 'refused 8 3' "$(word 9 0 0 0x80000001 0xC0000001 | plan)"
+check 'a least before the first harvest' 'refused 8 3' "$(word 9 0 0 0x80000001 0x40000001 0xC0000001 | plan)"
+check 'a most before the first harvest' 'refused 8 3' "$(word 9 0 0 0xA0000001 0x40000001 0xC0000001 | plan)"
+check 'a least behind a most' 'refused 8 5' "$(word 9 0 0 0x40000001 0xA0000001 0x80000001 0xC0000001 | plan)"
+check 'a second least' 'refused 8 5' "$(word 9 0 0 0x40000001 0x80000001 0x80000001 0xC0000001 | plan)"
+check 'a second most' 'refused 8 6' "$(word 9 0 0 0x40000001 0x80000001 0xA0000001 0xA0000001 0xC0000001 | plan)"
+check 'a count of all words' 'refused 8 6' "$(word 9 0 0 0x40000001 0x80000001 0xA0000001 0xC0000003 | plan)"
+check 'a least above its most' 'refused 10 2' "$(word 9 0 0 0x40000001 0x40000001 0x80000002 0xA0000001 0xC0000002 | plan)"
+check 'leasts that are not feasible' 'refused 11 0' "$(word 9 0 0 0x40000001 0x80000002 0xC0000001 | plan)"
 check 'a wrong count' 'refused 8 5' "$(word 9 0 0 0x40000001 0x40000002 0xC0000003 | plan)"
 check 'no end word' 'refused 8 5' "$(word 9 0 0 0x40000001 0x40000002 | plan)"
 check 'a truncated end word' 'refused 8 5' "$(word 9 0 0 0x40000001 0x40000002 0xC0000002 | head -c 23 | plan)"
@@ -89,7 +129,11 @@ check 'end above capacity' 'refused 5 0' "$(word 9 0 10 0x40000001 0xC0000001 | 
 check 'out of reach' 'refused 9 1' "$(word 8 3 8 0x40000004 0xC0000001 | plan)"
 
 # the limits of the file's size
-(word 9 0 0; harvests "$most" 1; word $((0xC0000000 + most))) >"$folder/full"
+frames() { (word 9 0 0; harvests "$1" 1; word $((0xC0000000 + $1))); }
+check 'one frame too many' 'refused 2 0' "$(frames $((most + 1)) | plan)"
+check 'one frame too many: bytes' $((4 * (most + 1 + other))) "$(frames $((most + 1)) | wc -c)"
+check 'the most frames without bounds' "frames $most capacity 9 needed 0" "$(frames "$most" | plan | head -n 1)"
+(word 9 0 0; for ((i = 0; i < most; i++)); do word 0x40000001 0x80000001 0xA0000001; done; word $((0xC0000000 + most))) >"$folder/full"
 check 'size of a full file' "$bytes" "$(wc -c <"$folder/full")"
 check 'the most frames' "frames $most capacity 9 needed 0" "$(plan <"$folder/full" | head -n 1)"
 check 'the most frames: lines' $((most + 2)) "$(plan <"$folder/full" | wc -l)"

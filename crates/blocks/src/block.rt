@@ -7,7 +7,7 @@ use numbers::lesser;
 use numbers::plus;
 ghost use Prim.Native.Nat.{_<_};
 ghost use lib.ListN.{length};
-ghost use Rattle.certifier.specs.Says.{Small};
+ghost use Rattle.certifier.specs.Says.{Readable};
 
 // What a frame needs at a level and at one more; both alike where no level was tried.
 pub struct Needs {
@@ -31,8 +31,16 @@ pub struct Block {
 
 // The reserve behind a block that ends before frame `to`: none where the level rises there, a full store where it
 // falls.
-pub fn end_of(rule: Rule, harvest: &[u32], lows: &[u32], to: usize, low: u64) -> u64
-    requires { ⌜ Small rule ⌝ }
+pub fn end_of(
+    rule: Rule,
+    harvest: &[u32],
+    least: &[u32],
+    most: &[u32],
+    lows: &[u32],
+    to: usize,
+    low: u64,
+) -> u64
+    requires { ⌜ Readable rule (now harvest) (now least) (now most) ⌝ }
 {
     if harvest.len() <= to {
         return rule.end;
@@ -40,7 +48,7 @@ pub fn end_of(rule: Rule, harvest: &[u32], lows: &[u32], to: usize, low: u64) ->
     if low < at(lows, to) {
         return 0;
     }
-    gap(frame_at(rule, harvest, to))
+    gap(frame_at(rule, harvest, least, most, to))
 }
 
 // The end of the frames in a row that have the bounds of the first.
@@ -62,10 +70,18 @@ fn run_end(lows: &[u32], highs: &[u32], from: usize, count: usize) -> usize {
 
 // The room of a frame whose level is settled against the one before it: none is carried in where it rises, all where
 // it falls.
-fn room_at(rule: Rule, harvest: &[u32], start: u64, from: usize, lows: &[u32]) -> u64
-    requires { ⌜ Small rule × (from < length (now harvest)) ⌝ }
+fn room_at(
+    rule: Rule,
+    harvest: &[u32],
+    least: &[u32],
+    most: &[u32],
+    start: u64,
+    from: usize,
+    lows: &[u32],
+) -> u64
+    requires { ⌜ Readable rule (now harvest) (now least) (now most) × (from < length (now harvest)) ⌝ }
 {
-    let f = frame_at(rule, harvest, from);
+    let f = frame_at(rule, harvest, least, most, from);
     if from == 0 {
         return lesser(f.ceiling, plus(start, f.inflow));
     }
@@ -88,13 +104,15 @@ fn untried() -> Needs {
 pub fn block_at(
     rule: Rule,
     harvest: &[u32],
+    least: &[u32],
+    most: &[u32],
     start: u64,
     from: usize,
     lows: &[u32],
     highs: &[u32],
     marks: &[u32],
 ) -> Block
-    requires { ⌜ Small rule × (from < length (now harvest)) ⌝ }
+    requires { ⌜ Readable rule (now harvest) (now least) (now most) × (from < length (now harvest)) ⌝ }
 {
     let low = at(lows, from);
     let to = run_end(lows, highs, from, harvest.len());
@@ -103,8 +121,8 @@ pub fn block_at(
         to: to,
         low: low,
         high: at(highs, from),
-        room: room_at(rule, harvest, start, from, lows),
-        end: end_of(rule, harvest, lows, to, low),
+        room: room_at(rule, harvest, least, most, start, from, lows),
+        end: end_of(rule, harvest, least, most, lows, to, low),
         tries: at(marks, from),
         last: untried(),
     }

@@ -13,7 +13,7 @@ use numbers::minus;
 use numbers::over;
 use numbers::plus;
 use numbers::within;
-ghost use Rattle.certifier.specs.Says.{Small};
+ghost use Rattle.certifier.specs.Says.{Readable};
 
 // What frames have and take, how many of them are free, and the narrowest bounds of those.
 pub struct Shared {
@@ -54,8 +54,16 @@ fn share_frame(before: Shared, f: At, gets: u64, floor: u64, roof: u64) -> Share
 }
 
 // What the frames of a block share that are free between two levels.
-fn share(rule: Rule, harvest: &[u32], block: Block, floor: u64, roof: u64) -> Shared
-    requires { ⌜ Small rule ⌝ }
+fn share(
+    rule: Rule,
+    harvest: &[u32],
+    least: &[u32],
+    most: &[u32],
+    block: Block,
+    floor: u64,
+    roof: u64,
+) -> Shared
+    requires { ⌜ Readable rule (now harvest) (now least) (now most) ⌝ }
 {
     let mut s = Shared {
         have: 0,
@@ -67,7 +75,7 @@ fn share(rule: Rule, harvest: &[u32], block: Block, floor: u64, roof: u64) -> Sh
     let to = within(block.to, harvest.len());
     let mut k = block.from;
     while k < to {
-        let f = frame_at(rule, harvest, k);
+        let f = frame_at(rule, harvest, least, most, k);
         s = share_frame(s, f, income(block, k, f), floor, roof);
         k += 1;
     }
@@ -84,17 +92,20 @@ fn part_of(block: Block, s: Shared) -> u64 {
 
 // The mean of a block, shared among the frames that no bound binds inside its interval; where bounds bind at that
 // mean, the mean of the frames that are free there.
-fn mean(rule: Rule, harvest: &[u32], block: Block) -> u64
-    requires { ⌜ Small rule ⌝ }
+fn mean(rule: Rule, harvest: &[u32], least: &[u32], most: &[u32], block: Block) -> u64
+    requires { ⌜ Readable rule (now harvest) (now least) (now most) ⌝ }
 {
-    let s = share(rule, harvest, block, block.low, block.high);
+    let s = share(rule, harvest, least, most, block, block.low, block.high);
     let level = part_of(block, s);
     if s.least <= level {
         if level < s.most {
             return level;
         }
     }
-    part_of(block, share(rule, harvest, block, level, level))
+    part_of(
+        block,
+        share(rule, harvest, least, most, block, level, level),
+    )
 }
 
 // The middle of a block's interval.
@@ -119,8 +130,8 @@ fn clamped(block: Block, level: u64) -> u64 {
 }
 
 // A likely level of a block: in turn the mean, the straight way where there is one, the mean, the middle.
-fn likely(rule: Rule, harvest: &[u32], block: Block) -> u64
-    requires { ⌜ Small rule ⌝ }
+fn likely(rule: Rule, harvest: &[u32], least: &[u32], most: &[u32], block: Block) -> u64
+    requires { ⌜ Readable rule (now harvest) (now least) (now most) ⌝ }
 {
     let turn = block.tries % 4;
     if turn == 3 {
@@ -132,14 +143,14 @@ fn likely(rule: Rule, harvest: &[u32], block: Block) -> u64
             return straight(block, last);
         }
     }
-    mean(rule, harvest, block)
+    mean(rule, harvest, least, most, block)
 }
 
 // The level to try in a block: a likely one within its interval.
-pub fn level_to_try(rule: Rule, harvest: &[u32], block: Block) -> u64
-    requires { ⌜ Small rule ⌝ }
+pub fn level_to_try(rule: Rule, harvest: &[u32], least: &[u32], most: &[u32], block: Block) -> u64
+    requires { ⌜ Readable rule (now harvest) (now least) (now most) ⌝ }
 {
-    clamped(block, likely(rule, harvest, block))
+    clamped(block, likely(rule, harvest, least, most, block))
 }
 
 // The level of a block of one frame: what is left for it, and any above its most is as good.

@@ -14,7 +14,7 @@ use numbers::put;
 use numbers::within;
 ghost use mathlib.Core.Path.{_≡_};
 ghost use lib.ListN.{length};
-ghost use Rattle.certifier.specs.Says.{Small};
+ghost use Rattle.certifier.specs.Says.{Readable};
 
 // Where a frame's own level is against the level that is tried.
 pub const BELOW: u64 = 0;
@@ -89,11 +89,13 @@ fn first_side(room: u64, needs: Needs) -> u64 {
 pub fn weigh_block(
     rule: Rule,
     harvest: &[u32],
+    least: &[u32],
+    most: &[u32],
     block: Block,
     level: u64,
     marks: &mut [u32],
 ) -> Needs
-    requires { ⌜ Small rule ⌝ }
+    requires { ⌜ Readable rule (now harvest) (now least) (now most) ⌝ }
     ensures { λ _. ⌜ length (now (marks .exit)) ≡ length (now (marks .entry)) ⌝ }
 {
     let mut w = Weighed {
@@ -105,7 +107,7 @@ pub fn weigh_block(
     let mut k = within(block.to, harvest.len());
     while block.from < k {
         k -= 1;
-        let f = frame_at(rule, harvest, k);
+        let f = frame_at(rule, harvest, least, most, k);
         w = weigh_frame(f, level, w);
         put(marks, k, verdict(f, w.need, w.more));
     }

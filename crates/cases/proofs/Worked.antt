@@ -15,7 +15,12 @@ pub worked-cases : AllHold cases
 unfolding decimal lineOf planOf openPlan neededOf framesOf plan budget largest reserve requirement peak
 worked-cases =
     refl ▸ (refl, refl) ▸ (refl, refl) ▸ (refl, refl) ▸ (refl, refl, refl) ▸ (refl, refl) ▸ (refl, refl)
-    ▸ (refl, refl) ▸ (refl, refl, refl) ▸ (refl, refl) ▸ (refl, refl) ▸ (refl, refl) ▸ (refl, refl)
-    ▸ refl ▸ refl ▸ (refl, refl) ▸ (refl, refl, refl) ▸ (refl, refl, refl) ▸ (refl, refl, refl)
-    ▸ (refl, refl, refl) ▸ refl ▸ (refl, refl, refl) ▸ (refl, refl) ▸ refl ▸ refl ▸ refl ▸ refl
-    ▸ (refl, refl, refl) ▸ refl ▸ (refl, refl) ▸ (refl, refl) ▸ tt
+    ▸ (refl, refl) ▸ (refl, refl, refl) ▸ (refl, refl) ▸ (refl, refl) ▸ (refl, refl) ▸ (refl, refl) ▸ refl ▸ refl
+    ▸ (refl, refl) ▸ (refl, refl, refl) ▸ (refl, refl, refl) ▸ (refl, refl, refl) ▸ (refl, refl, refl) ▸ refl
+    ▸ (refl, refl, refl) ▸ (refl, refl, refl) ▸ refl ▸ refl ▸ refl ▸ refl ▸ (refl, refl, refl) ▸ refl
+    ▸ (refl, refl) ▸ (refl, refl) ▸ (refl, refl) ▸ (refl, refl) ▸ (refl, refl) ▸ (refl, refl) ▸ (refl, refl)
+    ▸ (refl, refl) ▸ (refl, refl) ▸ (refl, refl) ▸ (refl, refl) ▸ (refl, refl) ▸ (refl, refl) ▸ (refl, refl)
+    ▸ (refl, refl) ▸ (refl, refl) ▸ (refl, refl) ▸ refl ▸ (refl, refl) ▸ (refl, refl) ▸ (refl, refl) ▸ refl ▸ refl
+    ▸ refl ▸ refl ▸ (refl, refl) ▸ refl ▸ refl ▸ refl ▸ refl ▸ refl ▸ refl ▸ refl ▸ refl ▸ (refl, refl, refl)
+    ▸ (refl, refl, refl) ▸ (refl, refl, refl) ▸ refl ▸ refl ▸ (refl, refl, refl) ▸ (refl, refl) ▸ (refl, refl)
+    ▸ (refl, refl) ▸ (refl, refl) ▸ (refl, refl) ▸ (refl, refl) ▸ tt

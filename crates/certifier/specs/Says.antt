@@ -5,6 +5,7 @@ use mathlib.Core.List.{List}
 use Prim.Native.Nat.{ℕ, _+_, _-_, _≤_, _<_, _^_, min}
 use lib.ListN.{length}
 use Rattle.model.specs.Frames.{Frame, plan}
+use Rattle.model.specs.Request.{boundsOf}
 use Rattle.model.specs.Plan.{framesOf}
 use Rattle.certifier.specs.declared.frame.Rule.{Rule}
 use Rattle.certifier.specs.declared.frame.At.{At}
@@ -14,19 +15,25 @@ use Rattle.certifier.specs.Frame.{drawn, Plain, Read}
 use Rattle.certifier.specs.Course.{Bounded, Certified}
 use Rattle.certifier.specs.Steps.{Able}
 
--- the frames of harvests by a rule
-abbrev pub frames : Rule → List ℕ → List Frame
-frames r hs = framesOf (r .capacity) (r .most) hs
+-- the frames of harvests, leasts and mosts by a rule
+abbrev pub frames : Rule → List ℕ → List ℕ → List ℕ → List Frame
+frames r hs ls ms = framesOf (r .capacity) (r .energy) hs (boundsOf ls ms)
 
 -- a rule whose figures are of 32 bits
 pub record Small (r : Rule) : Type 0 where
   pub capacity-fits : r .capacity < 2 ^ 32
   pub end-fits : r .end < 2 ^ 32
-  pub most-fits : r .most < 2 ^ 32
+  pub energy-fits : r .energy < 2 ^ 32
+
+-- frames that can be read by a rule: a least and a most for each harvest
+pub record Readable (r : Rule) (harvest least most : List ℕ) : Type 0 where
+  pub small : Small r
+  pub leasts-long : length least ≡ length harvest
+  pub mosts-long : length most ≡ length harvest
 
 -- f is frame i
-abbrev pub ReadAt : Rule → List ℕ → ℕ → At → Type 0
-ReadAt r hs i f = Read (frames r hs) i (f .inflow) (f .ceiling) (f .drain) (f .least) (f .most)
+abbrev pub ReadAt : Rule → List ℕ → List ℕ → List ℕ → ℕ → At → Type 0
+ReadAt r hs ls ms i f = Read (frames r hs ls ms) i (f .inflow) (f .ceiling) (f .drain) (f .least) (f .most)
 
 -- f's figures leave room for sums
 abbrev pub PlainAt : At → Type 0
@@ -61,9 +68,9 @@ pub record StartsAt (y : ℕ) (w : Weight) : Type 0 where
   pub rich : w .low ≤ y
   pub poor : Bounded (w .level) → min y (w .gap) ≤ w .high
 
--- the levels ls are certified for the start charge y; rs is what they reserve after each frame
-abbrev pub CertifiedAt : Rule → List ℕ → ℕ → List ℕ → List ℕ → Type 0
-CertifiedAt r hs y ls rs = Certified (r .end) y (frames r hs) 0 ls rs
+-- the levels are certified for the start charge y; rs is what they reserve after each frame
+abbrev pub CertifiedAt : Rule → List ℕ → List ℕ → List ℕ → ℕ → List ℕ → List ℕ → Type 0
+CertifiedAt r hs ls ms y levels rs = Certified (r .end) y (frames r hs ls ms) 0 levels rs
 
 -- b is what a frame with a least and a most spends of a at level l, which reserves v after it
 pub record Spent (least most a l v b : ℕ) : Type 0 where
@@ -72,22 +79,22 @@ pub record Spent (least most a l v b : ℕ) : Type 0 where
   pub more : least ≤ l → l < most → l + v < a → b ≡ l + 1
   pub level : least ≤ l → l < most → a ≤ l + v → b ≡ l
 
--- harvests that can be planned by a rule from a start charge: the plan can be drawn
-pub record Startable (r : Rule) (harvest : List ℕ) (start : ℕ) : Type 0 where
-  pub small : Small r
+-- frames that can be planned by a rule from a start charge: the plan can be drawn
+pub record Startable (r : Rule) (harvest least most : List ℕ) (start : ℕ) : Type 0 where
+  pub readable : Readable r harvest least most
   pub start-fits : start < 2 ^ 32
-  pub able : Able (r .end) (frames r harvest) 0 start
+  pub able : Able (r .end) (frames r harvest least most) 0 start
 
 -- the budgets are the plan
-abbrev pub PlannedAt : Rule → List ℕ → ℕ → List ℕ → Type 0
-PlannedAt r hs start bs = bs ≡ plan (r .end) start (frames r hs)
+abbrev pub PlannedAt : Rule → List ℕ → List ℕ → List ℕ → ℕ → List ℕ → Type 0
+PlannedAt r hs ls ms start bs = bs ≡ plan (r .end) start (frames r hs ls ms)
 
 -- what a guess is lent: a request that can be planned, a list for what is reserved after each frame, and one for
 -- levels and budgets
-abbrev pub Lent : Rule → List ℕ → ℕ → List ℕ → List ℕ → Type 0
-Lent r hs start rs bs = Startable r hs start × (length bs ≡ length hs) × (length hs ≤ length rs)
+abbrev pub Lent : Rule → List ℕ → List ℕ → List ℕ → ℕ → List ℕ → List ℕ → Type 0
+Lent r hs ls ms start rs bs = Startable r hs ls ms start × (length bs ≡ length hs) × (length hs ≤ length rs)
 
 -- what it gives back: lists as long as they were, and, where it answers true, the plan as budgets
-abbrev pub Tried : Rule → List ℕ → ℕ → List ℕ → List ℕ → List ℕ → List ℕ → Bool → Type 0
-Tried r hs start rs rs′ bs bs′ ok = (length rs′ ≡ length rs) × (length bs′ ≡ length bs) × (ok ≡ true →
-    PlannedAt r hs start bs′)
+abbrev pub Tried : Rule → List ℕ → List ℕ → List ℕ → ℕ → List ℕ → List ℕ → List ℕ → List ℕ → Bool → Type 0
+Tried r hs ls ms start rs rs′ bs bs′ ok = (length rs′ ≡ length rs) × (length bs′ ≡ length bs) × (ok ≡ true →
+    PlannedAt r hs ls ms start bs′)

@@ -13,7 +13,7 @@ ghost use mathlib.Core.Bool.{true, false};
 ghost use Prim.Native.Nat.{_+_, _-_, _≤_, _<_, _^_, min};
 ghost use lib.ListN.{length};
 ghost use Rattle.certifier.specs.Frame.{drawn};
-ghost use Rattle.certifier.specs.Says.{Small, PlainAt, Light, TurnedAt, WeighedAt, StartsAt, CertifiedAt};
+ghost use Rattle.certifier.specs.Says.{Readable, PlainAt, Light, TurnedAt, WeighedAt, StartsAt, CertifiedAt};
 
 // What the frames from some frame on reserve: at the level of that frame and at one level more, and a charge that no
 // reserve is above. `after` and `above` are what both levels reserve after that frame; `above` is for the contract
@@ -160,17 +160,26 @@ fn starts(start: u64, w: Weight) -> bool
 }
 
 // Whether the levels are certified; then `after` holds what each reserves after its frame.
-pub fn certify(rule: Rule, harvest: &[u32], start: u64, levels: &[u32], after: &mut [u32]) -> bool
-    requires { ⌜ Small rule × (length (now levels) ≡ length (now harvest)) ×
+pub fn certify(
+    rule: Rule,
+    harvest: &[u32],
+    least: &[u32],
+    most: &[u32],
+    start: u64,
+    levels: &[u32],
+    after: &mut [u32],
+) -> bool
+    requires { ⌜ Readable rule (now harvest) (now least) (now most) × (length (now levels) ≡ length (now harvest)) ×
         (length (now harvest) ≤ length (now after)) ⌝ }
     ensures { λ r. ⌜ (length (now (after .exit)) ≡ length (now (after .entry))) ×
-        (r ≡ true → CertifiedAt rule (now (harvest .entry)) start (now (levels .entry)) (now (after .exit))) ⌝ }
+        (r ≡ true → CertifiedAt rule (now (harvest .entry)) (now (least .entry)) (now (most .entry)) start
+        (now (levels .entry)) (now (after .exit))) ⌝ }
 {
     let mut w = past(rule.end);
     let mut k = harvest.len();
     while 0 < k {
         k -= 1;
-        let f = frame_at(rule, harvest, k);
+        let f = frame_at(rule, harvest, least, most, k);
         w = weigh(f, wide(levels[k]), w);
         if w.broken {
             return false;

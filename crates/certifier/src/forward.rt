@@ -25,15 +25,24 @@ fn spend(least: u64, most: u64, have: u64, level: u64, reserve: u64) -> u64
 }
 
 // Writes the plan's budgets over the certified levels.
-pub fn follow(rule: Rule, harvest: &[u32], start: u64, after: &[u32], budgets: &mut [u32])
-    requires { ⌜ Lent rule (now harvest) start (now after) (now budgets) × CertifiedAt rule (now harvest) start
-        (now budgets) (now after) ⌝ }
-    ensures { λ _. ⌜ PlannedAt rule (now (harvest .entry)) start (now (budgets .exit)) ⌝ }
+pub fn follow(
+    rule: Rule,
+    harvest: &[u32],
+    least: &[u32],
+    most: &[u32],
+    start: u64,
+    after: &[u32],
+    budgets: &mut [u32],
+)
+    requires { ⌜ Lent rule (now harvest) (now least) (now most) start (now after) (now budgets) ×
+        CertifiedAt rule (now harvest) (now least) (now most) start (now budgets) (now after) ⌝ }
+    ensures { λ _. ⌜ PlannedAt rule (now (harvest .entry)) (now (least .entry)) (now (most .entry)) start
+        (now (budgets .exit)) ⌝ }
 {
     let mut y = start;
     let mut i = 0;
     while i < harvest.len() {
-        let f = frame_at(rule, harvest, i);
+        let f = frame_at(rule, harvest, least, most, i);
         let have = has(f, y);
         let b = spend(f.least, f.most, have, wide(budgets[i]), wide(after[i]));
         budgets[i] = b as u32;

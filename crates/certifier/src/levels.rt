@@ -8,16 +8,18 @@ ghost use Rattle.certifier.specs.Says.{Lent, Tried};
 pub fn by_levels(
     rule: Rule,
     harvest: &[u32],
+    least: &[u32],
+    most: &[u32],
     start: u64,
     after: &mut [u32],
     budgets: &mut [u32],
 ) -> bool
-    requires { ⌜ Lent rule (now harvest) start (now after) (now budgets) ⌝ }
-    ensures { λ r. ⌜ Tried rule (now (harvest .entry)) start (now (after .entry)) (now (after .exit))
-        (now (budgets .entry)) (now (budgets .exit)) r ⌝ }
+    requires { ⌜ Lent rule (now harvest) (now least) (now most) start (now after) (now budgets) ⌝ }
+    ensures { λ r. ⌜ Tried rule (now (harvest .entry)) (now (least .entry)) (now (most .entry)) start
+        (now (after .entry)) (now (after .exit)) (now (budgets .entry)) (now (budgets .exit)) r ⌝ }
 {
-    if certify(rule, harvest, start, budgets, after) {
-        follow(rule, harvest, start, after, budgets);
+    if certify(rule, harvest, least, most, start, budgets, after) {
+        follow(rule, harvest, least, most, start, after, budgets);
         return true;
     }
     false

@@ -18,5 +18,6 @@ pub use frame::draw;
 pub use frame::frame_at;
 pub use frame::gap;
 pub use frame::has;
+pub use frame::inflow_at;
 pub use levels::by_levels;
 pub use requirement::peak_requirement;

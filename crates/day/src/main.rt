@@ -3,6 +3,7 @@
 // is less. Each frame has two lines: the plan of the rest; then its number, harvest, use, the charge after it and the
 // loss so far. The last line has the totals.
 use model::Figures;
+use model::limits::NO_UPPER_END;
 use shift::Shift;
 
 // Writes a number and what follows it.
@@ -47,8 +48,15 @@ fn line(harvest: u32, used: u32, s: Shift) {
 }
 
 // One frame: the rest planned, the frame recorded, and the shift as it stands after it.
-fn frame(s: Shift, forecast: &[u32], sun: u32, budgets: &mut [u32]) -> Shift {
-    rest::plan_rest(s, forecast, budgets);
+fn frame(
+    s: Shift,
+    forecast: &[u32],
+    least: &[u32],
+    most: &[u32],
+    sun: u32,
+    budgets: &mut [u32],
+) -> Shift {
+    rest::plan_rest(s, forecast, least, most, budgets);
     let mut number = 0;
     let mut p = 0;
     let part = rest::rest_part(s, budgets, &mut number, &mut p);
@@ -64,11 +72,18 @@ fn frame(s: Shift, forecast: &[u32], sun: u32, budgets: &mut [u32]) -> Shift {
 }
 
 // All frames, and the totals.
-fn run(first: Shift, forecast: &[u32], sun: &[u32], budgets: &mut [u32]) {
+fn run(
+    first: Shift,
+    forecast: &[u32],
+    least: &[u32],
+    most: &[u32],
+    sun: &[u32],
+    budgets: &mut [u32],
+) {
     let mut s = first;
     let mut i = 0;
     while i < sun.len() {
-        s = frame(s, forecast, sun[i], budgets);
+        s = frame(s, forecast, least, most, sun[i], budgets);
         i += 1;
     }
     put(s.now.totals.harvested, b" ");
@@ -78,6 +93,8 @@ fn run(first: Shift, forecast: &[u32], sun: &[u32], budgets: &mut [u32]) {
 
 fn main() {
     let forecast = [6u32, 4, 0, 0, 5, 5];
+    let least = [0u32; 6];
+    let most = [NO_UPPER_END; 6];
     let sun = [1u32, 5, 2, 0, 10, 4];
     let mut budgets = [0u32; 6];
     let figures = Figures {
@@ -85,8 +102,8 @@ fn main() {
         start: 2,
         end: 2,
     };
-    let answer = shift::start(figures, &forecast);
+    let answer = shift::start(figures, &forecast, &least, &most);
     if answer.refusal.number == 0 {
-        run(answer.shift, &forecast, &sun, &mut budgets);
+        run(answer.shift, &forecast, &least, &most, &sun, &mut budgets);
     }
 }

@@ -1,5 +1,6 @@
 // The capacity that a request needs, for C.
-ghost use Rattle.model.specs.Request.{request};
+ghost use lib.ListN.{length};
+ghost use Rattle.model.specs.Request.{boundedRequest};
 ghost use Rattle.planner.specs.Says.{NeededSays};
 ghost use Rattle.energy.specs.Through.{Through};
 ghost use Rattle.answers.specs.Flat.{neededFlat};
@@ -10,8 +11,16 @@ use planner::needed::needed;
 
 // Gives the needed capacity.
 #[no_mangle]
-pub extern "C" fn energy_needed(figures: Figures, harvest: &[u32]) -> EnergyNeededAnswer
-    ensures { λ r. ⌜ Through (NeededSays (request figures (now (harvest .entry)))) neededFlat r ⌝ }
+pub extern "C" fn energy_needed(
+    figures: Figures,
+    harvest: &[u32],
+    least: &[u32],
+    most: &[u32],
+) -> EnergyNeededAnswer
+    ensures { λ r. ⌜ Through
+        (NeededSays (boundedRequest figures (now (harvest .entry)) (now (least .entry)) (now (most .entry)))
+        (length (now (least .entry))) (length (now (most .entry))))
+        neededFlat r ⌝ }
 {
-    needed_flat(needed(figures, harvest))
+    needed_flat(needed(figures, harvest, least, most))
 }

@@ -1,5 +1,6 @@
 // The plan of a request, for C.
-ghost use Rattle.model.specs.Request.{request};
+ghost use lib.ListN.{length};
+ghost use Rattle.model.specs.Request.{boundedRequest};
 ghost use Rattle.planner.specs.Says.{PlanSays};
 ghost use Rattle.energy.specs.Through.{Through};
 ghost use Rattle.answers.specs.Flat.{planFlat};
@@ -13,11 +14,14 @@ use planner::plan::plan;
 pub extern "C" fn energy_plan(
     figures: Figures,
     harvest: &[u32],
+    least: &[u32],
+    most: &[u32],
     budgets: &mut [u32],
 ) -> EnergyPlanAnswer
     ensures { λ r. ⌜ Through
-        (PlanSays (request figures (now (harvest .entry))) (now (budgets .entry)) (now (budgets .exit)))
+        (PlanSays (boundedRequest figures (now (harvest .entry)) (now (least .entry)) (now (most .entry)))
+        (length (now (least .entry))) (length (now (most .entry))) (now (budgets .entry)) (now (budgets .exit)))
         planFlat r ⌝ }
 {
-    plan_flat(plan(figures, harvest, budgets))
+    plan_flat(plan(figures, harvest, least, most, budgets))
 }

@@ -1,7 +1,9 @@
 // The running shift, for C. Starting and recording answer the struct that the entries answer.
 ghost use denote.Ref.{ptr};
-ghost use Rattle.model.specs.Request.{request};
+ghost use lib.ListN.{length};
+ghost use Rattle.model.specs.Request.{boundedRequest};
 ghost use Rattle.shift.specs.Says.{StartSays, RecordSays};
+ghost use Rattle.rest.specs.Rest.{lists};
 ghost use Rattle.rest.specs.Says.{RestSays};
 ghost use Rattle.energy.specs.Through.{Through};
 ghost use Rattle.answers.specs.Flat.{restFlat};
@@ -25,10 +27,16 @@ pub struct EnergyPartAnswer {
 
 // Starts a shift from a request.
 #[no_mangle]
-pub extern "C" fn energy_shift_start(figures: Figures, harvest: &[u32]) -> ShiftAnswer
-    ensures { λ r. ⌜ StartSays (request figures (now (harvest .entry))) r ⌝ }
+pub extern "C" fn energy_shift_start(
+    figures: Figures,
+    harvest: &[u32],
+    least: &[u32],
+    most: &[u32],
+) -> ShiftAnswer
+    ensures { λ r. ⌜ StartSays (boundedRequest figures (now (harvest .entry)) (now (least .entry)) (now (most .entry)))
+        (length (now (least .entry))) (length (now (most .entry))) r ⌝ }
 {
-    shift::start(figures, harvest)
+    shift::start(figures, harvest, least, most)
 }
 
 // Records the next frame's harvest and use.
@@ -39,18 +47,21 @@ pub extern "C" fn energy_shift_record(shift: Shift, harvest: u32, used: u32) -> 
     shift.record(harvest, used)
 }
 
-// Plans the frames not yet recorded.
+// Plans the frames not yet recorded by the harvests, leasts and mosts lent.
 #[no_mangle]
 pub extern "C" fn energy_shift_plan_rest(
     shift: Shift,
     harvest: &[u32],
+    least: &[u32],
+    most: &[u32],
     budgets: &mut [u32],
 ) -> EnergyRestAnswer
     ensures { λ r. ⌜ Through
-        (RestSays shift (now (harvest .entry)) (now (budgets .entry)) (now (budgets .exit)))
+        (RestSays shift (lists (now (harvest .entry)) (now (least .entry)) (now (most .entry)))
+        (now (budgets .entry)) (now (budgets .exit)))
         restFlat r ⌝ }
 {
-    rest_flat(plan_rest(shift, harvest, budgets))
+    rest_flat(plan_rest(shift, harvest, least, most, budgets))
 }
 
 // Where the part of the budgets that begins at the next frame lies: an exported function returns no reference.

@@ -7,6 +7,7 @@
 // or overflow. What differs: its levels are the slopes of a taut string, which is drawn in linear time (crates
 // `sight` and `string`) and not in quadratic time; frames with bounds are split at levels (`blocks`, `splitting`);
 // and levels are whole numbers.
+mod bounded;
 mod level;
 mod peak;
 mod plan;

@@ -1,5 +1,7 @@
 // The plan of a request: levels are guessed, certified and followed. One level for all frames is tried first, then
-// the string, then the splitting; a guess that is not certified costs time and nothing else.
+// the string, where no frame is bounded, then the splitting; a guess that is not certified costs time and nothing
+// else.
+use super::bounded::is_bounded;
 use super::level::one_level;
 use certifier::Rule;
 use certifier::by_levels;
@@ -10,6 +12,7 @@ use string::string_levels;
 ghost use mathlib.Core.Path.{_≡_};
 ghost use lib.ListN.{length};
 ghost use Rattle.model.specs.Limits.{maxFrames};
+ghost use Rattle.model.specs.Request.{boundsOf};
 ghost use Rattle.model.specs.Frames.{plan};
 ghost use Rattle.model.specs.Plan.{framesOf};
 ghost use Rattle.certifier.specs.Says.{Lent, Tried, PlannedAt};
@@ -22,16 +25,18 @@ pub const DAY: usize = 128;
 fn by_one_level(
     rule: Rule,
     harvest: &[u32],
+    least: &[u32],
+    most: &[u32],
     start: u64,
     after: &mut [u32],
     budgets: &mut [u32],
 ) -> bool
-    requires { ⌜ Lent rule (now harvest) start (now after) (now budgets) ⌝ }
-    ensures { λ r. ⌜ Tried rule (now (harvest .entry)) start (now (after .entry)) (now (after .exit))
-        (now (budgets .entry)) (now (budgets .exit)) r ⌝ }
+    requires { ⌜ Lent rule (now harvest) (now least) (now most) start (now after) (now budgets) ⌝ }
+    ensures { λ r. ⌜ Tried rule (now (harvest .entry)) (now (least .entry)) (now (most .entry)) start
+        (now (after .entry)) (now (after .exit)) (now (budgets .entry)) (now (budgets .exit)) r ⌝ }
 {
-    if one_level(rule, harvest, start, budgets) {
-        return by_levels(rule, harvest, start, after, budgets);
+    if one_level(rule, harvest, least, most, start, budgets) {
+        return by_levels(rule, harvest, least, most, start, after, budgets);
     }
     false
 }
@@ -41,19 +46,22 @@ fn by_one_level(
 fn plan_by_splitting(
     rule: Rule,
     harvest: &[u32],
+    least: &[u32],
+    most: &[u32],
     start: u64,
     after: &mut [u32],
     marks: &mut [u32],
     budgets: &mut [u32],
 )
-    requires { ⌜ Lent rule (now harvest) start (now after) (now budgets) ⌝ }
-    ensures { λ _. ⌜ PlannedAt rule (now (harvest .entry)) start (now (budgets .exit)) ⌝ }
+    requires { ⌜ Lent rule (now harvest) (now least) (now most) start (now after) (now budgets) ⌝ }
+    ensures { λ _. ⌜ PlannedAt rule (now (harvest .entry)) (now (least .entry)) (now (most .entry)) start
+        (now (budgets .exit)) ⌝ }
 {
-    split_levels(rule, harvest, start, budgets, after, marks);
-    if by_levels(rule, harvest, start, after, budgets) {
+    split_levels(rule, harvest, least, most, start, budgets, after, marks);
+    if by_levels(rule, harvest, least, most, start, after, budgets) {
         return;
     }
-    search_all(rule, harvest, start, budgets);
+    search_all(rule, harvest, least, most, start, budgets);
 }
 
 // Writes the plan's budgets by the string, whose chains stand in the other two lists; where its levels are not
@@ -61,79 +69,145 @@ fn plan_by_splitting(
 fn plan_by_string(
     rule: Rule,
     harvest: &[u32],
+    least: &[u32],
+    most: &[u32],
     start: u64,
     after: &mut [u32],
     marks: &mut [u32],
     budgets: &mut [u32],
 )
-    requires { ⌜ Lent rule (now harvest) start (now after) (now budgets) ⌝ }
-    ensures { λ _. ⌜ PlannedAt rule (now (harvest .entry)) start (now (budgets .exit)) ⌝ }
+    requires { ⌜ Lent rule (now harvest) (now least) (now most) start (now after) (now budgets) ⌝ }
+    ensures { λ _. ⌜ PlannedAt rule (now (harvest .entry)) (now (least .entry)) (now (most .entry)) start
+        (now (budgets .exit)) ⌝ }
 {
     string_levels(rule, harvest, start, budgets, marks, after);
-    if by_levels(rule, harvest, start, after, budgets) {
+    if by_levels(rule, harvest, least, most, start, after, budgets) {
         return;
     }
-    plan_by_splitting(rule, harvest, start, after, marks, budgets);
+    plan_by_splitting(rule, harvest, least, most, start, after, marks, budgets);
+}
+
+// Writes the plan's budgets by the string where no frame is bounded, and otherwise by the splitting at once.
+fn plan_by_many_levels(
+    rule: Rule,
+    harvest: &[u32],
+    least: &[u32],
+    most: &[u32],
+    start: u64,
+    after: &mut [u32],
+    marks: &mut [u32],
+    budgets: &mut [u32],
+)
+    requires { ⌜ Lent rule (now harvest) (now least) (now most) start (now after) (now budgets) ⌝ }
+    ensures { λ _. ⌜ PlannedAt rule (now (harvest .entry)) (now (least .entry)) (now (most .entry)) start
+        (now (budgets .exit)) ⌝ }
+{
+    if is_bounded(least, most) {
+        plan_by_splitting(rule, harvest, least, most, start, after, marks, budgets);
+        return;
+    }
+    plan_by_string(rule, harvest, least, most, start, after, marks, budgets);
 }
 
 // Writes the plan's budgets by the first guess that is certified, or by a search in every frame.
 fn plan_with(
     rule: Rule,
     harvest: &[u32],
+    least: &[u32],
+    most: &[u32],
     start: u64,
     after: &mut [u32],
     marks: &mut [u32],
     budgets: &mut [u32],
 )
-    requires { ⌜ Lent rule (now harvest) start (now after) (now budgets) ⌝ }
-    ensures { λ _. ⌜ PlannedAt rule (now (harvest .entry)) start (now (budgets .exit)) ⌝ }
+    requires { ⌜ Lent rule (now harvest) (now least) (now most) start (now after) (now budgets) ⌝ }
+    ensures { λ _. ⌜ PlannedAt rule (now (harvest .entry)) (now (least .entry)) (now (most .entry)) start
+        (now (budgets .exit)) ⌝ }
 {
-    if by_one_level(rule, harvest, start, after, budgets) {
+    if by_one_level(rule, harvest, least, most, start, after, budgets) {
         return;
     }
-    plan_by_string(rule, harvest, start, after, marks, budgets);
+    plan_by_many_levels(rule, harvest, least, most, start, after, marks, budgets);
 }
 
 // The same with lists for a day, which take less time to clear.
-fn plan_day(rule: Rule, harvest: &[u32], start: u64, budgets: &mut [u32])
-    requires { ⌜ Few rule (now harvest) start (now budgets) day ⌝ }
-    ensures { λ _. ⌜ PlannedAt rule (now (harvest .entry)) start (now (budgets .exit)) ⌝ }
+fn plan_day(
+    rule: Rule,
+    harvest: &[u32],
+    least: &[u32],
+    most: &[u32],
+    start: u64,
+    budgets: &mut [u32],
+)
+    requires { ⌜ Few rule (now harvest) (now least) (now most) start (now budgets) day ⌝ }
+    ensures { λ _. ⌜ PlannedAt rule (now (harvest .entry)) (now (least .entry)) (now (most .entry)) start
+        (now (budgets .exit)) ⌝ }
 {
     let mut after = [0u32; DAY];
     let mut marks = [0u32; DAY];
-    plan_with(rule, harvest, start, &mut after, &mut marks, budgets);
+    plan_with(
+        rule,
+        harvest,
+        least,
+        most,
+        start,
+        &mut after,
+        &mut marks,
+        budgets,
+    );
 }
 
 // The same with lists for all frames that a request may have.
-fn plan_any(rule: Rule, harvest: &[u32], start: u64, budgets: &mut [u32])
-    requires { ⌜ Few rule (now harvest) start (now budgets) maxFrames ⌝ }
-    ensures { λ _. ⌜ PlannedAt rule (now (harvest .entry)) start (now (budgets .exit)) ⌝ }
+fn plan_any(
+    rule: Rule,
+    harvest: &[u32],
+    least: &[u32],
+    most: &[u32],
+    start: u64,
+    budgets: &mut [u32],
+)
+    requires { ⌜ Few rule (now harvest) (now least) (now most) start (now budgets) maxFrames ⌝ }
+    ensures { λ _. ⌜ PlannedAt rule (now (harvest .entry)) (now (least .entry)) (now (most .entry)) start
+        (now (budgets .exit)) ⌝ }
 {
     let mut after = [0u32; MAX_FRAMES];
     let mut marks = [0u32; MAX_FRAMES];
-    plan_with(rule, harvest, start, &mut after, &mut marks, budgets);
+    plan_with(
+        rule,
+        harvest,
+        least,
+        most,
+        start,
+        &mut after,
+        &mut marks,
+        budgets,
+    );
 }
 
-// Writes the plan's budgets. No budget is above `most`, which the caller sets to what no budget can reach.
+// Writes the plan's budgets. No budget is above `energy`, the most of a frame that has no upper end.
 pub fn plan_into(
     capacity: u64,
     start: u64,
     end: u64,
-    most: u64,
+    energy: u64,
     harvest: &[u32],
+    least: &[u32],
+    most: &[u32],
     budgets: &mut [u32],
 )
-    requires { ⌜ Ready capacity start end most (now harvest) × (length (now budgets) ≡ length (now harvest)) ⌝ }
-    ensures { λ _. ⌜ now (budgets .exit) ≡ plan end start (framesOf capacity most (now (harvest .entry))) ⌝ }
+    requires { ⌜ Ready capacity start end energy (now harvest) (now least) (now most) ×
+        (length (now budgets) ≡ length (now harvest)) ⌝ }
+    ensures { λ _. ⌜ now (budgets .exit) ≡ plan end start (framesOf capacity energy (now (harvest .entry))
+        (boundsOf (now (least .entry)) (now (most .entry)))) ⌝ }
 {
     let rule = Rule {
         capacity: capacity,
         end: end,
-        most: most,
+        energy: energy,
     };
     if harvest.len() <= DAY {
-        plan_day(rule, harvest, start, budgets);
+        plan_day(rule, harvest, least, most, start, budgets);
         return;
     }
-    plan_any(rule, harvest, start, budgets);
+    plan_any(rule, harvest, least, most, start, budgets);
 }

@@ -2,11 +2,10 @@
 ghost use mathlib.Core.Path.{_≡_};
 ghost use mathlib.Core.Bool.{true};
 ghost use lib.ListN.{length};
-ghost use Rattle.model.specs.Request.{request};
+ghost use Rattle.model.specs.Request.{boundedRequest};
 ghost use Rattle.model.specs.Refusals.{isNone, planRefusal};
-ghost use Rattle.model.specs.Plan.{planOf};
 ghost use Rattle.text.specs.Wrote.{Wrote};
-ghost use Rattle.printed.specs.Text.{showing, shownOf, requestText};
+ghost use Rattle.printed.specs.Text.{planText, requestText};
 ghost use Rattle.listing.specs.Says.{ListSays};
 use grader::sums_of;
 use model::Figures;
@@ -28,20 +27,22 @@ use wordfile::read;
 fn list_plan(
     figures: Figures,
     harvest: &[u32],
+    least: &[u32],
+    most: &[u32],
     budgets: &mut [u32],
     charges: &mut [i64],
     losses: &mut [u32],
     out: &mut [u8],
 ) -> usize
-    requires { ⌜ isNone (planRefusal (request figures (now harvest)) (length (now budgets))) ≡ true ⌝ }
+    requires { ⌜ isNone (planRefusal (boundedRequest figures (now harvest) (now least) (now most)) (length (now least))
+        (length (now most)) (length (now budgets))) ≡ true ⌝ }
     requires { ⌜ length (now charges) ≡ length (now harvest) ⌝ }
     requires { ⌜ length (now losses) ≡ length (now harvest) ⌝ }
-    ensures { λ r. ⌜ Wrote (showing
-        (shownOf (request figures (now (harvest .entry))) (planOf (request figures (now (harvest .entry))))))
-        (now (out .entry)) (now (out .exit)) r ⌝ }
+    ensures { λ r. ⌜ Wrote (planText (boundedRequest figures (now (harvest .entry)) (now (least .entry))
+        (now (most .entry)))) (now (out .entry)) (now (out .exit)) r ⌝ }
 {
-    let needed = needed_capacity(figures, harvest);
-    write_plan(figures, harvest, budgets);
+    let needed = needed_capacity(figures, harvest, least, most);
+    write_plan(figures, harvest, least, most, budgets);
     fill(figures, harvest, budgets, charges, losses);
     let sums = sums_of(budgets);
     let a = put_first(
@@ -55,13 +56,20 @@ fn list_plan(
     put_worth(sums.curve0, sums.curve1, sums.curve2, out, b)
 }
 
-// The listing of a request: its plan, or its refusal.
-fn list_request(figures: Figures, harvest: &[u32], out: &mut [u8]) -> usize
-    ensures { λ r. ⌜ Wrote (requestText (request figures (now (harvest .entry)))) (now (out .entry))
-        (now (out .exit)) r ⌝ }
+// The listing of a request, its lists of one length: its plan, or its refusal.
+fn list_request(
+    figures: Figures,
+    harvest: &[u32],
+    least: &[u32],
+    most: &[u32],
+    out: &mut [u8],
+) -> usize
+    requires { ⌜ (length (now least) ≡ length (now harvest)) × (length (now most) ≡ length (now harvest)) ⌝ }
+    ensures { λ r. ⌜ Wrote (requestText (boundedRequest figures (now (harvest .entry)) (now (least .entry))
+        (now (most .entry)))) (now (out .entry)) (now (out .exit)) r ⌝ }
 {
     let k = harvest.len();
-    let refusal = plan_refusal(figures, harvest, k);
+    let refusal = plan_refusal(figures, harvest, least, most, k);
     if !is_none(refusal) {
         return put_refused(refusal, out);
     }
@@ -71,6 +79,8 @@ fn list_request(figures: Figures, harvest: &[u32], out: &mut [u8]) -> usize
     list_plan(
         figures,
         harvest,
+        least,
+        most,
         &mut budgets[0..k],
         &mut charges[0..k],
         &mut losses[0..k],
@@ -83,12 +93,14 @@ pub fn list(file: &[u8], out: &mut [u8]) -> usize
     ensures { λ r. ⌜ ListSays (now (file .entry)) (now (out .entry)) (now (out .exit)) r ⌝ }
 {
     let mut harvest = [0u32; MAX_FRAMES];
-    let answer = read(file, &mut harvest);
+    let mut least = [0u32; MAX_FRAMES];
+    let mut most = [0u32; MAX_FRAMES];
+    let answer = read(file, &mut harvest, &mut least, &mut most);
     match answer {
         ReadAnswer::Accepted(header) => {
             let figures = header.figures;
             let k = header.frames;
-            list_request(figures, &harvest[0..k], out)
+            list_request(figures, &harvest[0..k], &least[0..k], &most[0..k], out)
         }
         ReadAnswer::Refused(refusal) => put_refused(refusal, out),
     }

@@ -1,13 +1,15 @@
 -- The numbers of refusals: which cannot come from a list, and whose test holds where one comes.
 use mathlib.Core.Path.{_≡_, refl, sym, _∙_}
-use mathlib.Core.Bool.{Bool, true, false, false≢true}
+use mathlib.Core.Bool.{Bool, true, false, not, false≢true}
 use mathlib.Core.List.{List, [], _∷_, _++_}
 use Prim.Native.Nat.{ℕ, suc}
 use lib.Dec.{ltb, eqb}
 use Rattle.model.specs.declared.Refusal.{Refusal}
 use Rattle.model.specs.Choice.{pick}
 use Rattle.model.specs.Limits.{maxHarvest}
-use Rattle.model.specs.Refusals.{refusal, none, isNone, firstOf, harvestOverLimit}
+use Rattle.model.specs.Request.{Bounds}
+use Rattle.model.specs.Refusals.{refusal, none, isNone, firstOf, wrongLength, harvestOverLimit, badBounds}
+use Rattle.model.specs.Refusals.{boundsRefused}
 
 -- none of a list of refusals has number n
 abbrev pub Without : ℕ → List Refusal → Type 0
@@ -41,6 +43,22 @@ harvest-without n k (h ∷ hs) z e = go (ltb maxHarvest h) (harvest-without n (s
     go :
         (t : Bool) → eqb (harvestOverLimit (suc k) hs .number) n ≡ false →
         eqb (elim t as (λ _. Refusal) [ true ↦ refusal 6 k | false ↦ harvestOverLimit (suc k) hs ] .number) n ≡ false
+    go true d = e
+    go false d = d
+
+-- so has 7
+pub length-without : (n k l : ℕ) → eqb 0 n ≡ false → eqb 7 n ≡ false → eqb (wrongLength k l .number) n ≡ false
+length-without n k l z e = test-without n (not (eqb l k)) (refusal 7 0) z e
+
+-- and 10
+pub bounds-without :
+    (n k : ℕ) (ws : List Bounds) → eqb 0 n ≡ false → eqb 10 n ≡ false → eqb (boundsRefused k ws .number) n ≡ false
+bounds-without n k [] z e = z
+bounds-without n k (w ∷ ws) z e = go (badBounds w) (bounds-without n (suc k) ws z e)
+  where
+    go :
+        (t : Bool) → eqb (boundsRefused (suc k) ws .number) n ≡ false →
+        eqb (elim t as (λ _. Refusal) [ true ↦ refusal 10 k | false ↦ boundsRefused (suc k) ws ] .number) n ≡ false
     go true d = e
     go false d = d
 

@@ -99,11 +99,11 @@ from-start q i ts r =
 
 -- demand 3: what start handed over is the logbook's first state
 pub shift-demand : ShiftDemand
-shift-demand q a p n ts r =
-    let ok : isNone (startRefusal q) ≡ true = ap isNone (sym (p .refusal)) ∙ n in
+shift-demand q l m a p n ts r =
+    let ok : isNone (startRefusal q l m) ≡ true = ap isNone (sym (p .refusal)) ∙ n in
     let e : begun a ≡ stateOf (opened q) =
     ap (λ (s : Shift). record { shift = s }) (p .shift
-    ∙ pick-by (isNone (startRefusal q)) true (started q) noShift ok) in
+    ∙ pick-by (isNone (startRefusal q l m)) true (started q) noShift ok) in
     subst
     (λ (x : State). Demand3 q x ts)
     (sym e)

@@ -1,23 +1,25 @@
 -- Each kind of call keeps what is asked of it. The record that a call gets is the logbook's and passes 22, so its
 -- refusals are the logbook's, and so is everything else that its promise says.
 use mathlib.Core.Path.{_≡_, refl, sym, ap, subst, _∙_}
-use mathlib.Core.Bool.{Bool, true, false, not}
+use mathlib.Core.Bool.{Bool, true, false}
 use mathlib.Core.List.{List, [], _∷_, _++_}
 use Prim.Native.Nat.{ℕ, suc, _-_}
 use lib.Dec.{eqb, ltb}
 use lib.ListN.{length, take, drop}
-use borrow.Author.Tests.{eqb-true, eqb-false}
+use lib.IntN.{pos}
 use Rattle.model.specs.declared.Refusal.{Refusal}
 use Rattle.model.specs.Choice.{pick}
-use Rattle.model.specs.Request.{Request}
+use Rattle.model.specs.Request.{Request, boundsOf}
+use Rattle.model.specs.Trace.{trace, lastFrom}
 use Rattle.model.specs.Charge.{atHand, frameEnd}
-use Rattle.model.specs.Refusals.{gives, outcome, refusal, isNone}
+use Rattle.model.specs.Refusals.{gives, outcome, refusal, isNone, reachable}
 use Rattle.shift.specs.declared.Totals.{Totals}
 use Rattle.shift.specs.declared.Shift.{Shift}
 use Rattle.shift.specs.declared.ShiftAnswer.{ShiftAnswer}
 use Rattle.rest.specs.declared.RestAnswer.the-variants as rest
 use Rattle.shift.specs.Shift.{isShift, plus, recordingRefusals, recordRefusal, recordedBy}
-use Rattle.rest.specs.Rest.{endingOf, restBudgets, restRefusal, restRequest, planningRefusals, writtenFrom, RestMeans}
+use Rattle.rest.specs.Rest.{Lists, zeros, missingTo, endingOf, restBudgets, restRefusal, restRequest}
+use Rattle.rest.specs.Rest.{planningRefusals, writtenFrom, RestMeans}
 use Rattle.shift.specs.Says.{RecordSays}
 use Rattle.rest.specs.Says.{RestSays, restSaid}
 use Rattle.shift.proofs.Record.{past-22, record-says}
@@ -90,81 +92,91 @@ recording-keeps h u =
 
 -- planning the rest
 planning-step :
-    (hs b : List ℕ) (q : Request) (l : Logbook) → Sound q l → (a : Planning) →
-    RestSays (shiftOf l) hs b (a .budgets) (a .answer) →
-    Step q (planning hs b) l a
-planning-step hs b q l i a p =
+    (p : Lists) (b : List ℕ) (q : Request) (l : Logbook) → Sound q l → (a : Planning) →
+    RestSays (shiftOf l) p b (a .budgets) (a .answer) →
+    Step q (planning p b) l a
+planning-step p b q l i a says =
     let n = l .page .now .recorded in
-    let r = openRequest l hs in
-    let f = planningRefusal l hs (length b) in
-    let e : restRefusal (shiftOf l) hs (length b) ≡ f =
-    past-22 (shiftOf l) (planningRefusals (terms l) (l .page .now) hs (length b)) (i .is-shift) in
-    let o : restSaid (a .answer) ≡ outcome f (endingOf r) = p .answer
+    let r = openRequest l p in
+    let f = planningRefusal l p (length b) in
+    let e : restRefusal (shiftOf l) p (length b) ≡ f =
+    past-22 (shiftOf l) (planningRefusals (terms l) (l .page .now) p (length b)) (i .is-shift) in
+    let o : restSaid (a .answer) ≡ outcome f (endingOf r) = says .answer
     ∙ ap (λ (g : Refusal). outcome g (endingOf r)) e in
-    let d : a .budgets ≡ dueBudgets l hs b =
-    p .budgets ∙ ap (λ (g : Refusal). pick (isNone g) (writtenFrom n b (restBudgets r)) b) e in
+    let d : a .budgets ≡ dueBudgets l p b =
+    says .budgets ∙ ap (λ (g : Refusal). pick (isNone g) (writtenFrom n b (restBudgets r)) b) e in
     record {
       tells-due =
           ap (λ x. tells ending x (a .budgets ∷ [])) o
           ∙ ap (λ (c : List ℕ). tells ending (outcome f (endingOf r)) (c ∷ [])) d;
       leaves-it = refl;
       sound = i;
-      means = subst (λ (g : Refusal). RestMeans g n r b (a .budgets)) e (p .means);
+      means = subst (λ (g : Refusal). RestMeans g n r b (a .budgets)) e (says .means);
     }
 
-planning-without : (hs b : List ℕ) (l : Logbook) → eqb (planningRefusal l hs (length b) .number) 22 ≡ false
-planning-without hs b l =
+planning-without : (p : Lists) (b : List ℕ) (l : Logbook) → eqb (planningRefusal l p (length b) .number) 22 ≡ false
+planning-without p b l =
     let k = terms l in
     let n = l .page .now in
-    number.first-without 22 refl (planningRefusals k n hs (length b)) (
-      number.test-without 22 (not (eqb (length hs) (k .frames))) (refusal 7 0) refl refl,
+    let i = n .recorded in
+    number.first-without 22 refl (planningRefusals k n p (length b)) (
+      number.length-without 22 (k .frames) (length (p .harvest)) refl refl,
       (
-        number.test-without 22 (not (eqb (length b) (k .frames))) (refusal 7 0) refl refl,
+        number.length-without 22 (k .frames) (length (p .least)) refl refl,
         (
-          number.test-without 22 (eqb (n .recorded) (k .frames)) (refusal 20 0) refl refl,
-          (number.harvest-without 22 (suc (n .recorded)) (drop (n .recorded) hs) refl refl, tt),
+          number.length-without 22 (k .frames) (length (p .most)) refl refl,
+          (
+            number.length-without 22 (k .frames) (length b) refl refl,
+            (
+              number.test-without 22 (eqb i (k .frames)) (refusal 20 0) refl refl,
+              (
+                number.harvest-without 22 (suc i) (drop i (p .harvest)) refl refl,
+                (number.bounds-without 22 (suc i) (boundsOf (drop i (p .least)) (drop i (p .most))) refl refl, tt),
+              ),
+            ),
+          ),
         ),
       ),
     )
 
-planning-possible : (hs b : List ℕ) (x : State) → (a : Planning) × RestSays (x .shift) hs b (a .budgets) (a .answer)
-planning-possible hs b x = go (isNone (restRefusal s hs (length b))) refl (eqb (endingOf q .missing) 0) refl
+planning-possible : (p : Lists) (b : List ℕ) (x : State) →
+    (a : Planning) × RestSays (x .shift) p b (a .budgets) (a .answer)
+planning-possible p b x = go (isNone (restRefusal s p (length b))) refl (reachable q) refl
   where
     s : Shift
     s = x .shift
 
     q : Request
-    q = restRequest s hs
+    q = restRequest s p
 
     written : List ℕ
     written = take (s .now .recorded) b ++ restBudgets q
 
     go :
-        (t : Bool) → isNone (restRefusal s hs (length b)) ≡ t → (u : Bool) → eqb (endingOf q .missing) 0 ≡ u →
-        (a : Planning) × RestSays s hs b (a .budgets) (a .answer)
+        (t : Bool) → isNone (restRefusal s p (length b)) ≡ t → (u : Bool) → reachable q ≡ u →
+        (a : Planning) × RestSays s p b (a .budgets) (a .answer)
     go false e u d =
-        let f = restRefusal s hs (length b) in
-        (record { answer = rest.Refused f; budgets = b }, rest-refused s hs b f refl e)
+        let f = restRefusal s p (length b) in
+        (record { answer = rest.Refused f; budgets = b }, rest-refused s p b f refl e)
     go true e true d = (
       record { answer = rest.Planned; budgets = written },
-      rest-done s hs b e rest.Planned (restBudgets q) (ap gives (ending-full q (eqb-true (endingOf q .missing) 0 d)))
-          refl,
+      rest-done s p b e rest.Planned (restBudgets q) (ap gives (ending-full q d)) refl,
     )
     go true e false d =
-        let m = endingOf q .missing in (
+        let m = missingTo (q .figures .end) (lastFrom (pos (q .figures .start)) (trace q (zeros q))) in (
           record { answer = rest.Short m; budgets = written },
-          rest-done s hs b e (rest.Short m) (restBudgets q) (ap gives (ending-short q m refl (eqb-false m 0 d))) refl,
+          rest-done s p b e (rest.Short m) (restBudgets q) (ap gives (ending-short q m d refl)) refl,
         )
 
-planning-keeps : (hs b : List ℕ) → Keeps (planning hs b)
-planning-keeps hs b =
+planning-keeps : (p : Lists) (b : List ℕ) → Keeps (planning p b)
+planning-keeps p b =
     record {
-      step = planning-step hs b;
-      without-22 = λ l. without 22 ending (planningRefusal l hs (length b)) (endingOf (openRequest l hs))
-          (planning-without hs b l);
-      possible = planning-possible hs b;
+      step = planning-step p b;
+      without-22 = λ l. without 22 ending (planningRefusal l p (length b)) (endingOf (openRequest l p))
+          (planning-without p b l);
+      possible = planning-possible p b;
     }
 
 pub keeps : (c : Call) → Keeps (kind c)
 keeps (records h u) = recording-keeps h u
-keeps (plans hs b) = planning-keeps hs b
+keeps (plans p b) = planning-keeps p b

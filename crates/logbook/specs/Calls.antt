@@ -6,7 +6,7 @@ use Rattle.model.specs.Choice.{pick}
 use Rattle.model.specs.Refusals.{outcome, isNone}
 use Rattle.shift.specs.declared.ShiftAnswer.{ShiftAnswer}
 use Rattle.rest.specs.declared.RestAnswer.{RestAnswer}
-use Rattle.rest.specs.Rest.{endingOf, restBudgets, writtenFrom, RestMeans}
+use Rattle.rest.specs.Rest.{Lists, endingOf, restBudgets, writtenFrom, RestMeans}
 use Rattle.shift.specs.Says.{shiftSaid, RecordSays}
 use Rattle.rest.specs.Says.{restSaid, RestSays}
 use Rattle.logbook.specs.Logbook.{Logbook, noteRefusal, noted, planningRefusal, openRequest, shiftOf}
@@ -31,34 +31,34 @@ pub record Planning : Type 0 where
   pub answer : RestAnswer
   pub budgets : List ℕ
 
--- the budgets that the logbook gives for harvests hs and budgets b
-abbrev pub dueBudgets : Logbook → List ℕ → List ℕ → List ℕ
-dueBudgets l hs b =
+-- the budgets that the logbook gives for the lists lent and budgets b
+abbrev pub dueBudgets : Logbook → Lists → List ℕ → List ℕ
+dueBudgets l p b =
     pick
-    (isNone (planningRefusal l hs (length b)))
-    (writtenFrom (l .page .now .recorded) b (restBudgets (openRequest l hs)))
+    (isNone (planningRefusal l p (length b)))
+    (writtenFrom (l .page .now .recorded) b (restBudgets (openRequest l p)))
     b
 
--- planning the rest by harvests hs into budgets b; whatever its answer, it leaves shift and logbook alone
-abbrev pub planning : List ℕ → List ℕ → Kind
-planning hs b =
+-- planning the rest by the lists lent into budgets b; whatever its answer, it leaves shift and logbook alone
+abbrev pub planning : Lists → List ℕ → Kind
+planning p b =
     record {
       Answer = Planning;
-      Says = λ x a. RestSays (x .shift) hs b (a .budgets) (a .answer);
+      Says = λ x a. RestSays (x .shift) p b (a .budgets) (a .answer);
       leaves = λ x a. x;
       told = λ a. tells ending (restSaid (a .answer)) (a .budgets ∷ []);
-      due = λ l. tells ending (outcome (planningRefusal l hs (length b)) (endingOf (openRequest l hs)))
-          (dueBudgets l hs b ∷ []);
+      due = λ l. tells ending (outcome (planningRefusal l p (length b)) (endingOf (openRequest l p)))
+          (dueBudgets l p b ∷ []);
       logged = λ l. l;
-      Means = λ l a. RestMeans (planningRefusal l hs (length b)) (l .page .now .recorded) (openRequest l hs) b
+      Means = λ l a. RestMeans (planningRefusal l p (length b)) (l .page .now .recorded) (openRequest l p) b
           (a .budgets);
     }
 
 -- a call with its own figures and lists
 pub data Call : Type 0 where
   records : ℕ → ℕ → Call
-  plans : List ℕ → List ℕ → Call
+  plans : Lists → List ℕ → Call
 
 abbrev pub kind : Call → Kind
 kind (records h u) = recording h u
-kind (plans hs b) = planning hs b
+kind (plans p b) = planning p b

@@ -4,7 +4,7 @@ use mathlib.Core.List.{List, [], _∷_, _++_}
 use Prim.Native.Nat.{ℕ, suc, _+_}
 use lib.ListN.{drop}
 use Rattle.model.specs.declared.Refusal.{Refusal}
-use Rattle.model.specs.Request.{Request, figures, request, frameCount}
+use Rattle.model.specs.Request.{Request, figures, boundedRequest, frameCount}
 use Rattle.model.specs.Refusals.{firstOf}
 use Rattle.model.specs.Charge.{frameEnd}
 use Rattle.shift.specs.declared.Totals.{Totals}
@@ -12,7 +12,7 @@ use Rattle.shift.specs.declared.Present.{Present}
 use Rattle.shift.specs.declared.Shift.{Shift}
 use Rattle.shift.specs.Shift.{recordingRefusals}
 use Rattle.shift.specs.declared.Terms.{Terms}
-use Rattle.rest.specs.Rest.{planningRefusals}
+use Rattle.rest.specs.Rest.{Lists, planningRefusals}
 
 -- what changes as frames are recorded: the count, the charge and the totals; and the history, each recording not
 -- refused with its harvest, its use and its loss
@@ -77,15 +77,17 @@ noted l h u =
           };
     }
 
--- the refusal of a planning, 22 left out, with harvests hs and b budgets
-abbrev pub planningRefusal : Logbook → List ℕ → ℕ → Refusal
-planningRefusal l hs b = firstOf (planningRefusals (terms l) (l .page .now) hs b)
+-- the refusal of a planning, 22 left out, by the lists lent and with b budgets
+abbrev pub planningRefusal : Logbook → Lists → ℕ → Refusal
+planningRefusal l p b = firstOf (planningRefusals (terms l) (l .page .now) p b)
 
--- the rest by the logbook: its charge and the frames it has not counted, with the harvests lent
-abbrev pub openRequest : Logbook → List ℕ → Request
-openRequest l hs =
+-- the rest by the logbook: its charge and the frames it has not counted, with the harvests, leasts and mosts lent
+abbrev pub openRequest : Logbook → Lists → Request
+openRequest l p =
     let f = l .of .figures in
-    request (figures (f .capacity) (l .page .now .charge) (f .end)) (drop (l .page .now .recorded) hs)
+    let n = l .page .now .recorded in
+    boundedRequest (figures (f .capacity) (l .page .now .charge) (f .end)) (drop n (p .harvest)) (drop n (p .least))
+    (drop n (p .most))
 
 -- the logbook's figures as a shift's record
 abbrev pub shiftOf : Logbook → Shift

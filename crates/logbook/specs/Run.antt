@@ -85,14 +85,14 @@ pub record Moment (q : Request) (cs : List Call) (x : State) : Type 0 where
 
 -- demand 3 of a run ts that begins with state x, of a shift started from request q
 pub record Demand3 (q : Request) (x : State) (ts : List Turn) : Type 0 where
-  -- every refusal with its P, every short with its amount, the shift after every recording and every budget list
-  -- afterwards is the one that the logbook gives for the call's own figures and lists; and none that it gives is left
-  -- out
+  -- every refusal with its P, every short with its amount, 0 included, the shift after every recording and every
+  -- budget list afterwards is the one that the logbook gives for the call's own figures and lists, bounds included; and
+  -- none that it gives is left out
   pub tells-due : allTold ts ≡ allDue (opened q) (calls ts)
   -- 22 never comes up
   pub never-22 : comesUp 22 (allTold ts) ≡ false
-  -- every plan is the plan of the logbook's open frames and charge, best for every qualifying table; where a planning
-  -- is short nothing is feasible; recorded frames keep their budgets
+  -- every plan is the plan of the logbook's open frames and charge within the bounds lent, best for every qualifying
+  -- table; where a planning is short nothing within them is feasible; recorded frames keep their budgets
   pub plans-best : AllMean (opened q) ts
   -- after the list, and at every moment of it
   pub afterwards : Moment q (calls ts) (stateAfter x ts)
@@ -102,10 +102,10 @@ pub record Demand3 (q : Request) (x : State) (ts : List Turn) : Type 0 where
 abbrev pub begun : ShiftAnswer → State
 begun a = record { shift = a .shift }
 
--- demand 3: it holds of every run of every shift that start handed over
+-- demand 3: it holds of every run of every shift that start handed over, lent l leasts and m mosts
 abbrev pub ShiftDemand : Type 0
 ShiftDemand =
-    (q : Request) (a : ShiftAnswer) → StartSays q a → isNone (a .refusal) ≡ true →
+    (q : Request) (l m : ℕ) (a : ShiftAnswer) → StartSays q l m a → isNone (a .refusal) ≡ true →
     (ts : List Turn) → Run (begun a) ts → Demand3 q (begun a) ts
 
 -- it speaks of every list of calls: each has a run, whatever the shift

@@ -40,6 +40,21 @@ firstOf-append (x ∷ xs) ys = go (isNone x) refl (firstOf-append xs ys)
     go true e ih = ih
     go false e ih = sym (pick-by (isNone x) false (firstOf ys) x e)
 
+-- a refusal found in the first list stops there
+pub first-stopped : (xs ys : List Refusal) {f : Refusal} → f ≡ firstOf xs → isNone f ≡ false → f ≡ firstOf (xs ++ ys)
+first-stopped xs ys {f} p h =
+    p
+    ∙ sym (firstOf-append xs ys
+    ∙ pick-by (isNone (firstOf xs)) false (firstOf ys) (firstOf xs) (ap isNone (sym p) ∙ h))
+
+-- where it has none, the other list decides
+pub first-passed : (xs ys : List Refusal) {f g : Refusal} → f ≡ firstOf xs → isNone f ≡ true → g ≡ firstOf ys →
+    g ≡ firstOf (xs ++ ys)
+first-passed xs ys {f} p h q =
+    q
+    ∙ sym (firstOf-append xs ys
+    ∙ pick-by (isNone (firstOf xs)) true (firstOf ys) (firstOf xs) (ap isNone (sym p) ∙ h))
+
 -- a list of one refusal gives that refusal, if its P is 0 where its number is
 pub firstOf-one : (f : Refusal) → (isNone f ≡ true → f ≡ none) → firstOf (f ∷ []) ≡ f
 firstOf-one f h = go (isNone f) refl

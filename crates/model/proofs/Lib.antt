@@ -8,6 +8,7 @@ pub mod Curves
 pub mod Trace
 pub mod Machine
 pub mod Losses
+pub mod Charged
 pub mod Feasibility
 pub mod Reserve
 pub mod Budget

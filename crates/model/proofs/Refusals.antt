@@ -1,121 +1,129 @@
--- Refusal 9 is given only where the end charge is out of reach.
-use mathlib.Core.Path.{_≡_}
-use mathlib.Core.Logic.{_⊎_, ⊎-elim}
-use mathlib.Core.Bool.{Bool, true, false, not}
+-- Refusals 9 and 11 are given only where nothing can be reached.
+use mathlib.Core.Path.{_≡_, refl, ap, sym, _∙_}
+use mathlib.Core.Bool.{Bool, true, false, not, _||_, false≢true}
 use mathlib.Core.List.{List, [], _∷_, _++_}
-use Prim.Native.Nat.{ℕ, suc, _+_, _≤_, _<_}
-use native.Mathlib.Omega.{arith}
+use Prim.Native.Nat.{ℕ, suc, _-_}
 use lib.Dec.{eqb, ltb}
-use borrow.Author.Tests.{le-ltb}
+use borrow.Author.Tests.{eqb-true}
 use Rattle.model.specs.declared.Refusal.{Refusal}
 use Rattle.model.specs.Choice.{pick}
 use Rattle.model.specs.Limits.{maxFrames, maxHarvest, maxCapacity}
-use Rattle.model.specs.Request.{Request, frameCount, mostEnergy}
-use Rattle.model.specs.Refusals.{none, refusal, isNone, refuseIf, firstOf, wrongLength, overCapacityLimit}
-use Rattle.model.specs.Refusals.{framesRefusals, figureRefusals, harvestOverLimit, outOfReach, planRefusal}
-use Rattle.model.specs.Refusals.{neededRefusal, startRefusal}
-use Rattle.model.proofs.Order.{le-or-lt}
+use Rattle.model.specs.Request.{Bounds, Request, frameCount}
+use Rattle.model.specs.Refusals.{refusal, isNone, refuseIf, firstOf, wrongLength, overCapacityLimit}
+use Rattle.model.specs.Refusals.{lentRefusals, figureRefusals, harvestOverLimit, badBounds, boundsRefused}
+use Rattle.model.specs.Refusals.{boundRefusals, servedRefusals}
+use Rattle.model.specs.Refusals.{outOfReach, leastsRefused, leastsRefusedUnlimited, isUnreachable, reachable}
+use Rattle.model.specs.Refusals.{reachableUnlimited, planRefusal, neededRefusal, startRefusal}
 
--- a refusal whose number is not 9
-abbrev pub NotNine : Refusal → Type 0
-NotNine f = f .number ≡ 9 → ⊥
+-- a refusal that is neither 9 nor 11
+abbrev pub Other : Refusal → Type 0
+Other f = isUnreachable f ≡ false
 
--- no refusal of a list has number 9
-abbrev pub NoneNine : List Refusal → Type 0
-NoneNine [] = Unit {0}
-NoneNine (f ∷ fs) = NotNine f × NoneNine fs
+-- all refusals of a list
+abbrev pub AllOther : List Refusal → Type 0
+AllOther [] = Unit {0}
+AllOther (f ∷ fs) = Other f × AllOther fs
 
-pub none-not-nine : NotNine none
-none-not-nine p = omega arith
+pub refuse-other : (t : Bool) (n : ℕ) → Other (refusal n 0) → Other (refuseIf t n)
+refuse-other true n h = h
+refuse-other false n h = refl
 
-pub refuse-not-nine : (t : Bool) (n : ℕ) → (n ≡ 9 → ⊥) → NotNine (refuseIf t n)
-refuse-not-nine true n h = h
-refuse-not-nine false n h = none-not-nine
-
-harvest-not-nine : (k : ℕ) (hs : List ℕ) → NotNine (harvestOverLimit k hs)
-harvest-not-nine k [] = none-not-nine
-harvest-not-nine k (h ∷ hs) = go (ltb maxHarvest h) (harvest-not-nine (suc k) hs)
+harvest-other : (k : ℕ) (hs : List ℕ) → Other (harvestOverLimit k hs)
+harvest-other k [] = refl
+harvest-other k (h ∷ hs) = go (ltb maxHarvest h) (harvest-other (suc k) hs)
   where
-    go : (t : Bool) → NotNine (harvestOverLimit (suc k) hs) →
-        NotNine (elim t as (λ _. Refusal) [ true ↦ refusal 6 k | false ↦ harvestOverLimit (suc k) hs ])
-    go true i = λ p. omega arith
+    go : (t : Bool) → Other (harvestOverLimit (suc k) hs) →
+        Other (elim t as (λ _. Refusal) [ true ↦ refusal 6 k | false ↦ harvestOverLimit (suc k) hs ])
+    go true i = refl
     go false i = i
 
-reach-not-nine : (r : Request) → r .figures .end ≤ mostEnergy r → NotNine (outOfReach r)
-reach-not-nine r h = rw (le-ltb (mostEnergy r) (r .figures .end) h) none-not-nine
-
-pub first-not-nine : (fs : List Refusal) → NoneNine fs → NotNine (firstOf fs)
-first-not-nine [] a = none-not-nine
-first-not-nine (f ∷ fs) a = go (isNone f) (first-not-nine fs (a .1))
+bounds-other : (k : ℕ) (ws : List Bounds) → Other (boundsRefused k ws)
+bounds-other k [] = refl
+bounds-other k (w ∷ ws) = go (badBounds w) (bounds-other (suc k) ws)
   where
-    go : (t : Bool) → NotNine (firstOf fs) → NotNine (pick t (firstOf fs) f)
-    go true i = i
-    go false i = a .0
+    go : (t : Bool) → Other (boundsRefused (suc k) ws) →
+        Other (elim t as (λ _. Refusal) [ true ↦ refusal 10 k | false ↦ boundsRefused (suc k) ws ])
+    go true i = refl
+    go false i = i
 
--- a refusal that is 9 only out of reach says so by being 9
-nine-says : (r : Request) (f : Refusal) → (r .figures .end ≤ mostEnergy r → NotNine f) → f .number ≡ 9 →
-    mostEnergy r < r .figures .end
-nine-says r f h p =
-    ⊎-elim (λ (q : r .figures .end ≤ mostEnergy r). absurd (h q p)) (λ (q : mostEnergy r < r .figures .end). q)
-    (le-or-lt (r .figures .end) (mostEnergy r))
+-- the refusals of lengths, figures and frames are others
+length-other : (k n : ℕ) → Other (wrongLength k n)
+length-other k n = refuse-other (not (eqb n k)) 7 refl
 
--- the refusals of frames and figures are no 9
-frames-not-nine : (k : ℕ) → NoneNine (framesRefusals k)
-frames-not-nine k =
-    (refuse-not-nine (eqb k 0) 1 (λ p. omega arith), (refuse-not-nine (ltb maxFrames k) 2 (λ p. omega arith), tt))
+limit-other : (c : ℕ) → Other (overCapacityLimit c)
+limit-other c = refuse-other (ltb maxCapacity c) 3 refl
 
-length-not-nine : (k n : ℕ) → NotNine (wrongLength k n)
-length-not-nine k n = refuse-not-nine (not (eqb n k)) 7 (λ p. omega arith)
-
-limit-not-nine : (c : ℕ) → NotNine (overCapacityLimit c)
-limit-not-nine c = refuse-not-nine (ltb maxCapacity c) 3 (λ p. omega arith)
-
-figures-not-nine : (r : Request) → NoneNine (figureRefusals r)
-figures-not-nine r = (
-  limit-not-nine (r .figures .capacity),
+figures-other : (r : Request) → AllOther (figureRefusals r)
+figures-other r = (
+  limit-other (r .figures .capacity),
   (
-    refuse-not-nine (ltb (r .figures .capacity) (r .figures .start)) 4 (λ p. omega arith),
+    refuse-other (ltb (r .figures .capacity) (r .figures .start)) 4 refl,
     (
-      refuse-not-nine (ltb (r .figures .capacity) (r .figures .end)) 5 (λ p. omega arith),
-      (harvest-not-nine 1 (r .harvest), tt),
+      refuse-other (ltb (r .figures .capacity) (r .figures .end)) 5 refl,
+      (harvest-other 1 (r .harvest), tt),
     ),
   ),
 )
 
-join : (fs gs : List Refusal) → NoneNine fs → NoneNine gs → NoneNine (fs ++ gs)
-join [] gs a b = b
-join (f ∷ fs) gs a b = (a .0, join fs gs (a .1) b)
+-- where the first of a list is 9 or 11, so is the first of what follows the others
+past-others : (fs gs : List Refusal) → AllOther fs → isUnreachable (firstOf (fs ++ gs)) ≡ true →
+    isUnreachable (firstOf gs) ≡ true
+past-others [] gs a h = h
+past-others (f ∷ fs) gs a h = past-others fs gs (a .1) (go (isNone f) h)
+  where
+    go : (t : Bool) → isUnreachable (pick t (firstOf (fs ++ gs)) f) ≡ true → isUnreachable (firstOf (fs ++ gs)) ≡ true
+    go true h = h
+    go false h = absurd (false≢true (sym (a .0) ∙ h))
 
--- planning, the needed capacity and the start of a shift refuse with 9 only out of reach
-pub plan-nine : (r : Request) (n : ℕ) → planRefusal r n .number ≡ 9 → mostEnergy r < r .figures .end
-plan-nine r n =
-    let k = frameCount r in
-    let fs = wrongLength k n ∷ (figureRefusals r ++ (outOfReach r ∷ [])) in
-    nine-says r (planRefusal r n)
-    (λ h. first-not-nine (framesRefusals k ++ fs)
-    (join (framesRefusals k) fs (frames-not-nine k) (
-      length-not-nine k n,
-      join (figureRefusals r) (outOfReach r ∷ []) (figures-not-nine r)
-          (reach-not-nine r h, tt),
-    )))
+-- neither is no refusal
+unreachable-some : (f : Refusal) → isUnreachable f ≡ true → isNone f ≡ false
+unreachable-some f h = go (isNone f) refl
+  where
+    go : (t : Bool) → eqb (f .number) 0 ≡ t → t ≡ false
+    go true q = absurd
+        (false≢true (ap (λ (n : ℕ). eqb n 9 || eqb n 11) (sym (eqb-true (f .number) 0 q)) ∙ h))
+    go false q = refl
 
-pub needed-nine : (r : Request) → neededRefusal r .number ≡ 9 → mostEnergy r < r .figures .end
-needed-nine r =
-    let k = frameCount r in
-    let fs = overCapacityLimit (r .figures .start) ∷ overCapacityLimit (r .figures .end)
-    ∷ harvestOverLimit 1 (r .harvest) ∷ outOfReach r ∷ [] in
-    nine-says r (neededRefusal r)
-    (λ h. first-not-nine (framesRefusals k ++ fs)
-    (join (framesRefusals k) fs (frames-not-nine k) (
-      limit-not-nine (r .figures .start),
-      (limit-not-nine (r .figures .end), (harvest-not-nine 1 (r .harvest), (reach-not-nine r h, tt))),
-    )))
+lent-other : (k l m : ℕ) → AllOther (lentRefusals k l m)
+lent-other k l m = (
+  refuse-other (eqb k 0) 1 refl,
+  (refuse-other (ltb maxFrames k) 2 refl, (length-other k l, (length-other k m, tt))),
+)
 
-pub start-nine : (r : Request) → startRefusal r .number ≡ 9 → mostEnergy r < r .figures .end
-start-nine r =
+-- a request that is to be served is refused with 9 or 11 only where nothing can be reached
+served-unreachable : (r : Request) → isUnreachable (firstOf (servedRefusals r)) ≡ true → reachable r ≡ false
+served-unreachable r h =
+    let reach = outOfReach r ∷ leastsRefused r ∷ [] in
+    unreachable-some (firstOf reach)
+    (past-others (boundsRefused 1 (r .bounds) ∷ []) reach (bounds-other 1 (r .bounds), tt)
+    (past-others (figureRefusals r) (boundRefusals r) (figures-other r) h))
+
+-- and so are planning, the start of a shift and, without limit, the needed capacity
+pub plan-unreachable : (r : Request) (l m n : ℕ) → isUnreachable (planRefusal r l m n) ≡ true → reachable r ≡ false
+plan-unreachable r l m n h =
     let k = frameCount r in
-    let fs = figureRefusals r ++ (outOfReach r ∷ []) in
-    nine-says r (startRefusal r)
-    (λ h. first-not-nine (framesRefusals k ++ fs)
-    (join (framesRefusals k) fs (frames-not-nine k)
-    (join (figureRefusals r) (outOfReach r ∷ []) (figures-not-nine r) (reach-not-nine r h, tt))))
+    served-unreachable r
+    (past-others (wrongLength k n ∷ []) (servedRefusals r) (length-other k n, tt)
+    (past-others (lentRefusals k l m) (wrongLength k n ∷ servedRefusals r) (lent-other k l m) h))
+
+pub start-unreachable : (r : Request) (l m : ℕ) → isUnreachable (startRefusal r l m) ≡ true → reachable r ≡ false
+start-unreachable r l m h =
+    let k = frameCount r in
+    served-unreachable r (past-others (lentRefusals k l m) (servedRefusals r) (lent-other k l m) h)
+
+pub needed-unreachable : (r : Request) (l m : ℕ) → isUnreachable (neededRefusal r l m) ≡ true →
+    reachableUnlimited r ≡ false
+needed-unreachable r l m h =
+    let k = frameCount r in
+    let reach = outOfReach r ∷ leastsRefusedUnlimited r ∷ [] in
+    let limits = overCapacityLimit (r .figures .start)
+    ∷ overCapacityLimit (r .figures .end)
+    ∷ harvestOverLimit 1 (r .harvest)
+    ∷ boundsRefused 1 (r .bounds)
+    ∷ [] in
+    unreachable-some (firstOf reach)
+    (past-others limits reach (
+      limit-other (r .figures .start),
+      (limit-other (r .figures .end), (harvest-other 1 (r .harvest), (bounds-other 1 (r .bounds), tt))),
+    )
+    (past-others (lentRefusals k l m) (limits ++ reach) (lent-other k l m) h))

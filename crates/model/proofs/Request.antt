@@ -5,29 +5,30 @@ use mathlib.Core.Bool.{Bool, true, false, _&&_, _||_, false≢true}
 use mathlib.Core.List.{List, [], _∷_}
 use lib.IntN.{ℤ, pos}
 use lib.Signed.{_≤ℤ_}
-use lib.ListN.{length, getD, replicate}
-use Prim.Native.Nat.{ℕ, zero, suc, _+_, _-_, _≤_, _<_, min}
+use lib.ListN.{getD}
+use Prim.Native.Nat.{ℕ, zero, suc, _≤_, _<_, min}
 use native.Mathlib.Omega.{arith}
 use lib.Dec.{ltb, eqb}
 use borrow.Author.Tests.{ltb-true, eqb-true}
-use Rattle.model.specs.Request.{Request, total, mostEnergy}
+use Rattle.model.specs.Request.{Request, leasts, mostEnergy}
 use Rattle.model.specs.Charge.{feasible, charges}
+use Rattle.model.specs.Refusals.{reachable}
 use Rattle.model.specs.Reward.{Qualifies, earned, BestForAll, takesMore, IsPlan}
-use Rattle.model.specs.Frames.{Frame, Feasible, plan, served}
-use Rattle.model.specs.Plan.{framesOf, planOf}
+use Rattle.model.specs.Frames.{Frame, Feasible, served}
+use Rattle.model.specs.Plan.{framesWith, planOf}
 use Rattle.model.specs.Demands.{PlanDemand}
 use Rattle.model.proofs.Integers as int
 use Rattle.model.proofs.Tests.{both}
 use Rattle.model.proofs.Tables.{WithinAll, served-earns, level-qualifies, earned-level}
-use Rattle.model.proofs.Trace.{feasible-length}
+use Rattle.model.proofs.Trace.{feasible-length, feasible-drawable, feasible-within}
 use Rattle.model.proofs.Plan.{plan-best}
 use Rattle.model.proofs.Lowest.{MostServed, takes-more, lowest, AtMost}
 use Rattle.model.proofs.Bridge.{frames-feasible, feasible-frames, frames-within, charges-at-most}
-use Rattle.model.proofs.Reach.{zeros-feasible, spent}
+use Rattle.model.proofs.Reach.{feasible-spent, total-within, reachable-is, feasible-reachable, none-feasible}
 
 -- the frames of a request
 abbrev pub requestFrames : Request → List Frame
-requestFrames r = framesOf (r .figures .capacity) (mostEnergy r) (r .harvest)
+requestFrames r = framesWith r (r .figures .capacity)
 
 -- a list that earns most for every table serves most at every level
 pub earns-serves : (l : ℕ) (bs cs : List ℕ) → earned (λ n. pos (min n l)) cs ≤ℤ earned (λ n. pos (min n l)) bs →
@@ -85,40 +86,42 @@ module _ (r : Request) (start-fits : r .figures .start ≤ r .figures .capacity)
   shown : r .figures .start ≡ min (r .figures .capacity) (r .figures .start)
   shown = omega (arith, start-fits)
 
-  over-frames : (bs : List ℕ) → feasible r bs ≡ true →
+  pub over-frames : (bs : List ℕ) → feasible r bs ≡ true →
       Feasible (r .figures .end) (r .figures .start) (requestFrames r) bs
   over-frames bs k =
       feasible-frames (r .figures .capacity) (r .figures .end) (mostEnergy r) end-fits (r .figures .start)
-      (r .figures .start) (r .harvest) bs shown (omega arith) k
+      (r .figures .start) (r .harvest) (r .bounds) bs shown (omega arith) (feasible-within r bs k)
+      (feasible-drawable r bs k)
 
-  from-frames : (bs : List ℕ) → Feasible (r .figures .end) (r .figures .start) (requestFrames r) bs →
+  pub from-frames : (bs : List ℕ) → Feasible (r .figures .end) (r .figures .start) (requestFrames r) bs →
       feasible r bs ≡ true
   from-frames bs k =
-      frames-feasible (r .figures .capacity) (r .figures .end) (mostEnergy r) end-fits (r .figures .start)
-      (r .figures .start) (r .harvest) bs shown k
+      rw (
+        frames-within (r .figures .capacity) (r .figures .end) (mostEnergy r) (r .figures .start) (r .harvest)
+            (r .bounds) bs k,
+        frames-feasible (r .figures .capacity) (r .figures .end) (mostEnergy r) end-fits (r .figures .start)
+            (r .figures .start) (r .harvest) (r .bounds) bs shown k,
+      ) refl
 
-  pub within-reach : r .figures .end ≤ mostEnergy r → (bs : List ℕ) × (feasible r bs ≡ true)
-  within-reach h = (
-    replicate (length (r .harvest)) 0,
-    zeros-feasible (r .figures .capacity) (r .figures .end) (r .figures .start)
-        (r .harvest) end-fits h,
-  )
+  pub within-reach : reachable r ≡ true → (bs : List ℕ) × (feasible r bs ≡ true)
+  within-reach h = (leasts r, sym (reachable-is r) ∙ h)
 
   pub plan-serves : (bs : List ℕ) → feasible r bs ≡ true → (l : ℕ) → served l bs ≤ served l (planOf r)
   unfolding planOf
   plan-serves bs k l = plan-best (r .figures .end) (r .figures .start) l (requestFrames r) bs (over-frames bs k) .1
 
-  pub plan-feasible : r .figures .end ≤ mostEnergy r → feasible r (planOf r) ≡ true
+  -- where anything is feasible, the plan is
+  pub plan-feasible-by : (bs : List ℕ) → feasible r bs ≡ true → feasible r (planOf r) ≡ true
   unfolding planOf
-  plan-feasible h =
-      let w = within-reach h in
+  plan-feasible-by bs k =
       from-frames (planOf r)
-      (plan-best (r .figures .end) (r .figures .start) 0 (requestFrames r) (w .0) (over-frames (w .0) (w .1)) .0)
+      (plan-best (r .figures .end) (r .figures .start) 0 (requestFrames r) bs (over-frames bs k) .0)
+
+  pub plan-feasible : reachable r ≡ true → feasible r (planOf r) ≡ true
+  plan-feasible h = let w = within-reach h in plan-feasible-by (w .0) (w .1)
 
   within-all : (bs : List ℕ) → feasible r bs ≡ true → WithinAll (mostEnergy r) bs
-  within-all bs k =
-      frames-within (r .figures .capacity) (r .figures .end) (mostEnergy r) (r .figures .start) (r .harvest) bs
-      (over-frames bs k)
+  within-all bs k = total-within (mostEnergy r) bs (omega (arith, feasible-spent r bs k))
 
   -- serving as much at every level is earning as much for every table
   pub serves-earns : (bs cs : List ℕ) → feasible r bs ≡ true → feasible r cs ≡ true →
@@ -132,7 +135,7 @@ module _ (r : Request) (start-fits : r .figures .start ≤ r .figures .capacity)
   most-served cs best ds k l =
       earns-serves l cs ds (best (λ n. pos (min n l)) (level-qualifies l (mostEnergy r)) ds (from-frames ds k))
 
-  pub plan-is : r .figures .end ≤ mostEnergy r → IsPlan r (planOf r)
+  pub plan-is : reachable r ≡ true → IsPlan r (planOf r)
   unfolding planOf
   plan-is h =
       let k = plan-feasible h in
@@ -149,7 +152,7 @@ module _ (r : Request) (start-fits : r .figures .start ≤ r .figures .capacity)
   lowest-charges bs k best =
       at-most-at (charges r (planOf r)) (charges r bs)
       (charges-at-most (r .figures .capacity) (mostEnergy r) (r .figures .start) (r .figures .start)
-      (r .figures .start) (r .figures .start) (r .harvest) (planOf r) bs shown shown
+      (r .figures .start) (r .figures .start) (r .harvest) (r .bounds) (planOf r) bs shown shown
       (lowest (r .figures .end) (r .figures .start) (r .figures .start) (requestFrames r) bs bs (omega arith)
       (over-frames bs k) (over-frames bs k) (most-served bs best)))
 
@@ -165,36 +168,16 @@ one-plan r bs cs p q =
     (q .takes-more bs (p .is-feasible) (p .is-best)))
     (p .takes-more cs (q .is-feasible) (q .is-best))
 
--- nothing is feasible where the end charge is out of reach
-pub out-of-reach : (r : Request) → mostEnergy r < r .figures .end → (bs : List ℕ) → feasible r bs ≡ false
-out-of-reach r h bs = go (feasible r bs) refl
-  where
-    go : (t : Bool) → feasible r bs ≡ t → t ≡ false
-    go true q = absurd
-        (not-reached (total bs) (r .figures .end) (mostEnergy r)
-        (spent (r .figures .capacity) (r .figures .end) (r .figures .start) (r .harvest) bs q) h)
-      where
-        not-reached : (t e m : ℕ) → t + e ≤ m → m < e → ⊥
-        not-reached t e m p q = omega arith
-    go false q = refl
-
 -- demand 3, and reach of demand 2
 pub plan-demand : (r : Request) → r .figures .start ≤ r .figures .capacity → r .figures .end ≤ r .figures .capacity →
     PlanDemand r
 plan-demand r s e =
     record {
       within-reach = within-reach r s e;
-      out-of-reach = out-of-reach r;
+      out-of-reach = none-feasible r;
       is-plan = plan-is r s e;
-      only-plan = λ bs p. one-plan r bs (planOf r) p (plan-is r s e (reached bs p));
+      only-plan =
+          λ bs p. one-plan r bs (planOf r) p (plan-is r s e (feasible-reachable r bs (p .is-feasible)));
       serves-most = plan-serves r s e;
       lowest-charges = lowest-charges r s e;
     }
-  where
-    reached : (bs : List ℕ) → IsPlan r bs → r .figures .end ≤ mostEnergy r
-    reached bs p =
-        at-least (total bs) (r .figures .end) (mostEnergy r)
-        (spent (r .figures .capacity) (r .figures .end) (r .figures .start) (r .harvest) bs (p .is-feasible))
-      where
-        at-least : (t e m : ℕ) → t + e ≤ m → e ≤ m
-        at-least t e m p = omega arith

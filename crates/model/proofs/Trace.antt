@@ -13,7 +13,8 @@ use lib.Dec.{leb}
 use borrow.Author.Tests.{leb-true, leb-false, le-leb}
 use Rattle.model.specs.Choice.{pick}
 use Rattle.model.specs.Request.{Request, frameCount}
-use Rattle.model.specs.Charge.{FrameEnd, atHand, frameEnd, feasibleFrom, feasible, endsFrom, charges, losses}
+use Rattle.model.specs.Charge.{FrameEnd, atHand, frameEnd, feasibleFrom, drawable, endsFrom, charges, losses}
+use Rattle.model.specs.Charge.{allWithin, feasible}
 use Rattle.model.specs.Trace.{minZ, excess, tracedEnd, tracedFrom, traceFrom, trace, traceLosses, belowFrom}
 use Rattle.model.specs.Trace.{lastFrom, below-zero, end-too-low, is-feasible, verdict, EarliestBelow}
 use Rattle.model.specs.declared.frame.TracedEnd.{TracedEnd}
@@ -93,9 +94,9 @@ verdict-by k true t = (λ e. cc, λ e. absurd (false≢true e))
 verdict-by k false true = (λ e. refl, λ e. refl)
 verdict-by k false false = (λ e. cc, λ e. absurd (false≢true e))
 
--- the verdict is "feasible" exactly where the budgets are
+-- the verdict is "feasible" exactly where Definition 1 allows the budgets, whatever the bounds
 pub verdict-feasible : (r : Request) (bs : List ℕ) → length bs ≡ frameCount r →
-    (verdict r bs ≡ is-feasible) ↔ (feasible r bs ≡ true)
+    (verdict r bs ≡ is-feasible) ↔ (drawable r bs ≡ true)
 verdict-feasible r bs l =
     let zs = trace r bs in
     let v = verdict-by (belowFrom 1 zs) (leb 1 (belowFrom 1 zs))
@@ -123,19 +124,19 @@ traced-from c e x (h ∷ hs) (b ∷ bs) f =
 abbrev pub ends : Request → List ℕ → List FrameEnd
 ends r bs = endsFrom (r .figures .capacity) (r .figures .start) (r .harvest) bs
 
-traced-ends : (r : Request) (bs : List ℕ) → feasible r bs ≡ true →
+traced-ends : (r : Request) (bs : List ℕ) → drawable r bs ≡ true →
     tracedFrom (r .figures .capacity) (pos (r .figures .start)) (r .harvest) bs ≡ map inTrace (ends r bs)
 traced-ends r bs f = traced-from (r .figures .capacity) (r .figures .end) (r .figures .start) (r .harvest) bs f
 
--- the traced charges of feasible budgets are their charges
-pub trace-charges : (r : Request) (bs : List ℕ) → feasible r bs ≡ true → trace r bs ≡ map pos (charges r bs)
+-- the traced charges of budgets that can be drawn are their charges
+pub trace-charges : (r : Request) (bs : List ℕ) → drawable r bs ≡ true → trace r bs ≡ map pos (charges r bs)
 trace-charges r bs f =
     ap (map (λ (e : TracedEnd). e .charge)) (traced-ends r bs f)
     ∙ (map-map (λ (e : TracedEnd). e .charge) inTrace (ends r bs)
     ∙ sym (map-map pos (λ (e : FrameEnd). e .charge) (ends r bs)))
 
 -- and their traced losses are their losses
-pub trace-losses : (r : Request) (bs : List ℕ) → feasible r bs ≡ true → traceLosses r bs ≡ losses r bs
+pub trace-losses : (r : Request) (bs : List ℕ) → drawable r bs ≡ true → traceLosses r bs ≡ losses r bs
 trace-losses r bs f =
     ap (map (λ (e : TracedEnd). e .lost)) (traced-ends r bs f)
     ∙ map-map (λ (e : TracedEnd). e .lost) inTrace (ends r bs)
@@ -149,9 +150,17 @@ length-from c e x (h ∷ hs) (b ∷ bs) f =
     let y = frameEnd c x h b .charge in
     ap suc (length-from c e y hs bs (both (leb b (atHand c x h)) (feasibleFrom c e y hs bs) f .1))
 
+-- feasible budgets are within the bounds and can be drawn
+pub feasible-drawable : (r : Request) (bs : List ℕ) → feasible r bs ≡ true → drawable r bs ≡ true
+feasible-drawable r bs f = both (allWithin (r .bounds) bs) (drawable r bs) f .1
+
+pub feasible-within : (r : Request) (bs : List ℕ) → feasible r bs ≡ true → allWithin (r .bounds) bs ≡ true
+feasible-within r bs f = both (allWithin (r .bounds) bs) (drawable r bs) f .0
+
 -- feasible budgets are one for each frame
 pub feasible-length : (r : Request) (bs : List ℕ) → feasible r bs ≡ true → length bs ≡ frameCount r
-feasible-length r bs f = length-from (r .figures .capacity) (r .figures .end) (r .figures .start) (r .harvest) bs f
+feasible-length r bs f =
+    length-from (r .figures .capacity) (r .figures .end) (r .figures .start) (r .harvest) bs (feasible-drawable r bs f)
 
 -- a charge not below zero in front moves the place by one
 earliest-after : (i y : ℕ) (zs : List ℤ) → EarliestBelow i zs → EarliestBelow (suc i) (pos y ∷ zs)

@@ -5,8 +5,9 @@ use mathlib.Core.Bool.{true, false}
 use mathlib.Core.List.{List}
 use lib.IntN.{ℤ}
 use lib.ListN.{getD}
-use Prim.Native.Nat.{ℕ, _≤_, _<_}
+use Prim.Native.Nat.{ℕ, _≤_}
 use Rattle.model.specs.Request.{Request, mostEnergy, withCapacity}
+use Rattle.model.specs.Refusals.{reachable}
 use Rattle.model.specs.Charge.{feasible, charges, feasibleUnlimited}
 use Rattle.model.specs.Reward.{Qualifies, BestForAll, IsPlan, BestReward, IsNeeded}
 use Rattle.model.specs.Frames.{served}
@@ -14,11 +15,11 @@ use Rattle.model.specs.Plan.{planOf, neededOf}
 
 -- for every request with start ≤ capacity and end ≤ capacity
 pub record PlanDemand (r : Request) : Type 0 where
-  -- something is feasible exactly when start plus all harvest reaches the end charge
-  pub within-reach : r .figures .end ≤ mostEnergy r → (bs : List ℕ) × (feasible r bs ≡ true)
-  pub out-of-reach : mostEnergy r < r .figures .end → (bs : List ℕ) → feasible r bs ≡ false
+  -- something is feasible exactly when neither refusal 9 nor 11 holds
+  pub within-reach : reachable r ≡ true → (bs : List ℕ) × (feasible r bs ≡ true)
+  pub out-of-reach : reachable r ≡ false → (bs : List ℕ) → feasible r bs ≡ false
   -- then planOf is the plan: feasible, best for every qualifying table, and it takes more at the first difference
-  pub is-plan : r .figures .end ≤ mostEnergy r → IsPlan r (planOf r)
+  pub is-plan : reachable r ≡ true → IsPlan r (planOf r)
   -- no other list is
   pub only-plan : (bs : List ℕ) → IsPlan r bs → bs ≡ planOf r
   -- counting each budget up to a level, no feasible list serves more
@@ -27,7 +28,7 @@ pub record PlanDemand (r : Request) : Type 0 where
   pub lowest-charges : (bs : List ℕ) → feasible r bs ≡ true → BestForAll r bs → (i : ℕ) →
       getD (charges r (planOf r)) i 0 ≤ getD (charges r bs) i 0
 
--- for every request whose end is within reach; the capacity of the request plays no part
+-- for every request for which neither refusal 9 nor 11 holds without limit; its capacity plays no part
 pub record NeededDemand (r : Request) : Type 0 where
   -- neededOf is the least capacity, at least start and end, that serves every table as unlimited storage does
   pub is-needed : IsNeeded r (neededOf r)

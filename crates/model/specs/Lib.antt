@@ -3,8 +3,8 @@ pub mod Choice
 pub mod Lent
 pub mod Limits
 pub mod Request
-pub mod Refusals
 pub mod Charge
+pub mod Refusals
 pub mod Trace
 pub mod Reward
 pub mod Curves

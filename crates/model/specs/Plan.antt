@@ -2,20 +2,31 @@
 -- proved (proofs/).
 use mathlib.Core.List.{List, [], _∷_}
 use Prim.Native.Nat.{ℕ, _+_, max}
-use Rattle.model.specs.Request.{Request, total, mostEnergy}
+use lib.Dec.{eqb}
+use Rattle.model.specs.Choice.{pick}
+use Rattle.model.specs.Limits.{noUpperEnd}
+use Rattle.model.specs.Request.{Bounds, Request, firstBounds, laterBounds, total, mostEnergy}
 use Rattle.model.specs.Frames.{Frame, plan, peak}
 
--- document 01's charge rule as frames: capacity c; m is a most that no budget reaches
-abbrev pub frameOf : ℕ → ℕ → ℕ → Frame
-frameOf c m h = record { inflow = h; ceiling = c + h; drain = 0; least = 0; most = m }
+-- the most of a frame; m, which no budget reaches, where there is no upper end
+abbrev pub mostOf : ℕ → Bounds → ℕ
+mostOf m w = pick (eqb (w .most) noUpperEnd) m (w .most)
 
-unfoldable pub framesOf : ℕ → ℕ → List ℕ → List Frame
-framesOf c m [] = []
-framesOf c m (h ∷ hs) = frameOf c m h ∷ framesOf c m hs
+-- the charge rule as frames: capacity c, harvest h, bounds w
+abbrev pub frameOf : ℕ → ℕ → ℕ → Bounds → Frame
+frameOf c m h w = record { inflow = h; ceiling = c + h; drain = 0; least = w .least; most = mostOf m w }
+
+unfoldable pub framesOf : ℕ → ℕ → List ℕ → List Bounds → List Frame
+framesOf c m [] ws = []
+framesOf c m (h ∷ hs) ws = frameOf c m h (firstBounds ws) ∷ framesOf c m hs (laterBounds ws)
+
+-- the frames of a request with a store of capacity c
+abbrev pub framesWith : Request → ℕ → List Frame
+framesWith r c = framesOf c (mostEnergy r) (r .harvest) (r .bounds)
 
 -- the plan
 unfoldable pub planOf : Request → List ℕ
-planOf r = plan (r .figures .end) (r .figures .start) (framesOf (r .figures .capacity) (mostEnergy r) (r .harvest))
+planOf r = plan (r .figures .end) (r .figures .start) (framesWith r (r .figures .capacity))
 
 -- a capacity that no charge meets
 abbrev pub boundless : Request → ℕ
@@ -23,9 +34,9 @@ boundless r = r .figures .start + (r .figures .end + total (r .harvest))
 
 -- the plan without limit
 unfoldable pub openPlan : Request → List ℕ
-openPlan r = plan (r .figures .end) (r .figures .start) (framesOf (boundless r) (mostEnergy r) (r .harvest))
+openPlan r = plan (r .figures .end) (r .figures .start) (framesWith r (boundless r))
 
 -- the needed capacity: the greatest of the start, the end and what the plan without limit requires after each frame
 unfoldable pub neededOf : Request → ℕ
 neededOf r = max (r .figures .start)
-    (max (r .figures .end) (peak (r .figures .end) (framesOf (boundless r) (mostEnergy r) (r .harvest)) (openPlan r)))
+    (max (r .figures .end) (peak (r .figures .end) (framesWith r (boundless r)) (openPlan r)))

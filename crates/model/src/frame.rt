@@ -1,8 +1,8 @@
 // The frame rule as code, for every entry that follows charges.
 ghost use mathlib.Core.Path.{_≡_};
-ghost use Prim.Native.Nat.{_<_, _^_};
+ghost use Prim.Native.Nat.{_≤_, _<_, _^_};
 ghost use lib.Signed.{mag};
-ghost use Rattle.model.specs.Charge.{atHand};
+ghost use Rattle.model.specs.Charge.{atHand, frameEnd};
 ghost use Rattle.model.specs.Trace.{tracedEnd};
 
 // What a frame ends with: the charge, which may be below zero, and what was lost because the store was full.
@@ -36,4 +36,13 @@ pub fn frame_end(capacity: u32, charge: i64, harvest: u32, budget: u32) -> Trace
             lost: 0,
         }
     }
+}
+
+// The charge after a frame whose budget is at hand.
+pub fn charge_after(capacity: u32, charge: u32, harvest: u32, budget: u32) -> u32
+    requires { ⌜ budget ≤ atHand capacity charge harvest ⌝ }
+    ensures { λ r. ⌜ r ≡ frameEnd capacity charge harvest budget .charge ⌝ }
+{
+    let end = frame_end(capacity, charge as i64, harvest, budget);
+    end.charge as u32
 }

@@ -26,42 +26,42 @@ abbrev pub falling : Request
 falling = request (figures 9 0 0) (2 ∷ 1 ∷ [])
 
 -- the plan of harvest 1, 2 is 1, 2
-written : (bs : List ℕ) (x y : ℕ) (r : PlanAnswer) → PlanSays rising (x ∷ y ∷ []) bs r → bs ≡ 1 ∷ 2 ∷ []
+written : (bs : List ℕ) (x y : ℕ) (r : PlanAnswer) → PlanSays rising 2 2 (x ∷ y ∷ []) bs r → bs ≡ 1 ∷ 2 ∷ []
 unfolding planOf plan framesOf budget largest reserve
 written bs x y r p = p .budgets
 
 -- that of harvest 2, 1 is 2, 1
-written-falling : (bs : List ℕ) (x y : ℕ) (r : PlanAnswer) → PlanSays falling (x ∷ y ∷ []) bs r → bs ≡ 2 ∷ 1 ∷ []
+written-falling : (bs : List ℕ) (x y : ℕ) (r : PlanAnswer) → PlanSays falling 2 2 (x ∷ y ∷ []) bs r → bs ≡ 2 ∷ 1 ∷ []
 unfolding planOf plan framesOf budget largest reserve
 written-falling bs x y r p = p .budgets
 
 -- all budgets 0 is feasible, and not the plan
-pub all-zeros-refused : (x y : ℕ) (r : PlanAnswer) → PlanSays rising (x ∷ y ∷ []) (0 ∷ 0 ∷ []) r → ⊥
+pub all-zeros-refused : (x y : ℕ) (r : PlanAnswer) → PlanSays rising 2 2 (x ∷ y ∷ []) (0 ∷ 0 ∷ []) r → ⊥
 all-zeros-refused x y r p = heads 0 1 (0 ∷ []) (2 ∷ []) (λ q. omega arith) (written (0 ∷ 0 ∷ []) x y r p)
 
 -- no fixed list is the plan of both harvests 1, 2 and 2, 1
-pub fixed-plan-refused : (bs : List ℕ) (x y : ℕ) (r s : PlanAnswer) → PlanSays rising (x ∷ y ∷ []) bs r →
-    PlanSays falling (x ∷ y ∷ []) bs s → ⊥
+pub fixed-plan-refused : (bs : List ℕ) (x y : ℕ) (r s : PlanAnswer) → PlanSays rising 2 2 (x ∷ y ∷ []) bs r →
+    PlanSays falling 2 2 (x ∷ y ∷ []) bs s → ⊥
 fixed-plan-refused bs x y r s p q =
     heads 1 2 (2 ∷ []) (1 ∷ []) (λ z. omega arith) (sym (written bs x y r p) ∙ written-falling bs x y s q)
 
 -- budgets left as they were
-pub unwritten-refused : (r : PlanAnswer) → PlanSays rising (7 ∷ 7 ∷ []) (7 ∷ 7 ∷ []) r → ⊥
+pub unwritten-refused : (r : PlanAnswer) → PlanSays rising 2 2 (7 ∷ 7 ∷ []) (7 ∷ 7 ∷ []) r → ⊥
 unwritten-refused r p = heads 7 1 (7 ∷ []) (2 ∷ []) (λ q. omega arith) (written (7 ∷ 7 ∷ []) 7 7 r p)
 
 -- a refusal where there is a plan, whatever its number and P
 pub refusal-refused : (bs : List ℕ) (x y : ℕ) (f : Refusal) →
-    PlanSays rising (x ∷ y ∷ []) bs (plan-answer.Refused f) → ⊥
-refusal-refused bs x y f p = no-refusal (planRefusal rising 2) tt refl f (p .answer)
+    PlanSays rising 2 2 (x ∷ y ∷ []) bs (plan-answer.Refused f) → ⊥
+refusal-refused bs x y f p = no-refusal (planRefusal rising 2 2 2) tt refl f (p .answer)
 
 -- start plus all harvest as the needed capacity of harvest 1, 2, which is 0
-pub all-energy-refused : NeededSays rising (needed-answer.Capacity 3) → ⊥
+pub all-energy-refused : NeededSays rising 2 2 (needed-answer.Capacity 3) → ⊥
 unfolding neededOf openPlan plan framesOf budget largest reserve peak requirement
 all-energy-refused p =
-    let e : _≡_ {A = ℕ} 3 0 = gave (neededRefusal rising) (neededOf rising) 3 (p .answer) .1 in
+    let e : _≡_ {A = ℕ} 3 0 = gave (neededRefusal rising 2 2) (neededOf rising) 3 (p .answer) .1 in
     omega arith
 
 -- a refusal where there is a needed capacity
-pub needed-refusal-refused : (f : Refusal) → NeededSays rising (needed-answer.Refused f) → ⊥
+pub needed-refusal-refused : (f : Refusal) → NeededSays rising 2 2 (needed-answer.Refused f) → ⊥
 needed-refusal-refused f p =
-    no-refusal (neededRefusal rising) (neededOf rising) refl f (p .answer)
+    no-refusal (neededRefusal rising 2 2) (neededOf rising) refl f (p .answer)

@@ -1,5 +1,5 @@
 -- Every listing fits the room that is made of its longest lines, so nothing of it is cut off.
-use mathlib.Core.Path.{_≡_, refl}
+use mathlib.Core.Path.{_≡_, refl, sym, _∙_}
 use mathlib.Core.Bool.{Bool, true, false}
 use mathlib.Core.List.{List, [], _∷_, _++_}
 use Prim.Native.Nat.{ℕ, suc, _+_, _*_, _^_, _≤_, _<_}
@@ -16,12 +16,15 @@ use Rattle.model.specs.Curves.{houseCurve, worth, grade}
 use Rattle.model.specs.Plan.{planOf, neededOf}
 use Rattle.model.proofs.Curves.{worth-bound}
 use Rattle.model.proofs.Needed.{needed-at-most}
-use Rattle.model.proofs.Reach.{spent}
+use Rattle.model.proofs.Reach.{feasible-spent}
 use Rattle.model.proofs.Request.{plan-feasible}
 use Rattle.model.proofs.Trace.{feasible-length}
 use Rattle.request.proofs.Harvest.{total-small}
 use Rattle.request.proofs.Within.{FiguresWithin, plan-within}
-use Rattle.wordfile.specs.File.{requestIn, readRefusal}
+use Rattle.request.proofs.BadBounds.{bounds-length}
+use Rattle.words.specs.Words.{wordsOf}
+use Rattle.wordfile.specs.File.{leastsIn, mostsIn, requestIn, readRefusal}
+use Rattle.wordfile.proofs.Refused.{leasts-length, mosts-length}
 use Rattle.text.specs.Line.{lineOf, linesOf}
 use Rattle.text.specs.Wrote.{Wrote}
 use Rattle.text.proofs.Line.{line-fits}
@@ -32,6 +35,7 @@ use Rattle.printed.specs.Text.{frameDigits, energyDigits, worthDigits, l
 use Rattle.printed.specs.Text.{listingBytes}
 use Rattle.printed.specs.Text.{frameRows, showing, shownOf, requestText, listing}
 use Rattle.printed.proofs.Short.{Short, plan-short, read-short}
+use Rattle.printed.proofs.Means.{open-reach}
 
 -- the lines of all frames from a charge within the capacity: no charge is above it, no budget above their sum, no loss
 -- above its harvest
@@ -108,42 +112,52 @@ shown-fits q bs l k v t n =
 refused-fits : (f : Refusal) → Short f → length (refusedLine f) ≤ listingBytes
 refused-fits f h =
     le-trans
-    (line-fits refusedPattern (f .number ∷ f .p ∷ []) (1 ∷ 10 ∷ [])
+    (line-fits refusedPattern (f .number ∷ f .p ∷ []) (2 ∷ 10 ∷ [])
     (omega arith, h .short-number, (omega arith, h .short-p, tt)))
     (omega arith)
 
 -- a request's listing
-request-fits : (q : Request) → length (requestText q) ≤ listingBytes
-request-fits q = go (isNone f) refl
+request-fits : (q : Request) → length (q .bounds) ≤ frameCount q → length (requestText q) ≤ listingBytes
+request-fits q many = go (isNone f) refl
   where
+    k : ℕ
+    k = frameCount q
+
     f : Refusal
-    f = planRefusal q (frameCount q)
+    f = planRefusal q k k k
 
     go : (t : Bool) → isNone f ≡ t → length (pick t (showing (shownOf q (planOf q))) (refusedLine f)) ≤ listingBytes
     go true e =
-        let w = plan-within q (frameCount q) e in
+        let w = plan-within q k k k e in
+        let v = w .served .figures in
         let bs = planOf q in
-        let g = plan-feasible q (w .figures .start-fits) (w .figures .end-fits) (w .reach) in
-        let k = w .frames .few in
-        let c = w .figures .capacity-small in
-        let s = w .figures .start-fits in
-        let t = total-small maxHarvest (q .harvest) (w .figures .harvest-fits) in
+        let g = plan-feasible q (v .start-fits) (v .end-fits) (w .served .reach) in
+        let few = w .lent .frames .few in
+        let c = v .capacity-small in
+        let s = v .start-fits in
+        let t = total-small maxHarvest (q .harvest) (v .harvest-fits) in
         let d = feasible-length q bs g in
-        let u = spent (q .figures .capacity) (q .figures .end) (q .figures .start) (q .harvest) bs g in
-        let m = needed-at-most q (w .reach) in
-        shown-fits q bs (omega arith) k (w .figures) (omega arith) (omega arith)
-    go false e = refused-fits f (plan-short q (frameCount q))
+        let u = feasible-spent q bs g in
+        let m = needed-at-most q (open-reach q (w .served .reach)) in
+        shown-fits q bs (omega arith) few v (omega arith) (omega arith)
+    go false e = refused-fits f (plan-short q many)
+
+-- the request in a file has bounds for each frame
+found-bounds : (s : List ℕ) → length (requestIn s .bounds) ≤ frameCount (requestIn s)
+found-bounds s =
+    let ws = wordsOf s in
+    omega (arith, bounds-length (leastsIn ws) (mostsIn ws) (leasts-length ws ∙ sym (mosts-length ws)), leasts-length ws)
 
 -- a file's listing, whatever the file
 pub listing-fits : (s : List ℕ) → length (listing s) ≤ listingBytes
 listing-fits s = go (isNone f)
   where
     f : Refusal
-    f = readRefusal s maxFrames
+    f = readRefusal s maxFrames maxFrames maxFrames
 
     go : (t : Bool) → length (pick t (requestText (requestIn s)) (refusedLine f)) ≤ listingBytes
-    go true = request-fits (requestIn s)
-    go false = refused-fits f (read-short s maxFrames)
+    go true = request-fits (requestIn s) (found-bounds s)
+    go false = refused-fits f (read-short s)
 
 -- so in that room the listing is written whole
 pub whole-listing : (s o o′ : List ℕ) (n : ℕ) → listingBytes ≤ length o → Wrote (listing s) o o′ n →

@@ -5,7 +5,8 @@ use Prim.Native.Nat.{ℕ}
 use native.Mathlib.Omega.{arith}
 use lib.ListN.{getD}
 use Rattle.model.specs.declared.Refusal.{Refusal}
-use Rattle.model.specs.Request.{Request, request, figures}
+use Rattle.model.specs.Limits.{noUpperEnd}
+use Rattle.model.specs.Request.{Request, boundedRequest, figures}
 use Rattle.model.specs.Charge.{losses}
 use Rattle.model.specs.Frames.{reserve, largest, budget, plan, requirement, peak}
 use Rattle.model.specs.Plan.{framesOf, planOf, openPlan, neededOf}
@@ -19,7 +20,7 @@ use Rattle.printed.specs.Means.{Paired, ListMeans}
 
 -- its plan is 1, 2 and its needed capacity 0
 abbrev pub asked : Request
-asked = request (figures 9 0 0) (1 ∷ 2 ∷ [])
+asked = boundedRequest (figures 9 0 0) (1 ∷ 2 ∷ []) (0 ∷ 0 ∷ []) (noUpperEnd ∷ noUpperEnd ∷ [])
 
 -- no text that shows other budgets, whatever else it shows: zeros, or one fixed plan
 pub other-budgets-refused : (g : Shown) → Paired g → ListMeans asked (showing g) → g .budgets ≡ 1 ∷ 2 ∷ []
@@ -34,7 +35,7 @@ other-losses-refused g l m = m .right g (l, refl) .lost ∙ ap (losses asked) (o
 -- no text that shows another needed capacity: start plus all harvest, or the capacity
 pub other-needed-refused : (g : Shown) → Paired g → ListMeans asked (showing g) → g .needed ≡ 0
 unfolding neededOf openPlan plan framesOf budget largest reserve peak requirement
-other-needed-refused g l m = needed-demand asked (omega arith) .only-needed (g .needed) (m .right g (l, refl) .needed)
+other-needed-refused g l m = needed-demand asked refl .only-needed (g .needed) (m .right g (l, refl) .needed)
 
 -- the listing of its file is no refusal, whatever number and P
 pub refusal-refused : (f : Refusal) → listing (fileBytes asked) ≡ refusedLine f → ⊥

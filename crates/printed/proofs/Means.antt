@@ -1,27 +1,29 @@
 -- What can be read from a listing is right: its budgets are the plan, its number is the needed capacity, and after
--- "refused 9" nothing is feasible. Equal texts show the same figures, and the text was made of the right ones.
+-- "refused 9" or "refused 11" nothing is feasible. Equal texts show the same figures, and the text was made of the right ones.
 use mathlib.Core.Path.{_≡_, refl, sym, ap, subst, _∙_}
 use mathlib.Core.Logic.{inl, inr}
-use mathlib.Core.Bool.{Bool, true, false}
+use mathlib.Core.Bool.{Bool, true, false, _||_, false≢true}
 use mathlib.Core.List.{List, [], _∷_, _++_, map}
 use Prim.Native.Nat.{ℕ, suc}
 use native.Mathlib.Omega.{arith}
+use lib.Dec.{eqb}
+use borrow.Author.Tests.{ne-eqb}
 use lib.ListN.{length, getD, drop, length-map}
 use Rattle.model.specs.declared.Refusal.{Refusal}
 use Rattle.model.specs.Choice.{pick}
 use Rattle.model.specs.Limits.{maxFrames}
-use Rattle.model.specs.Request.{Request, frameCount}
-use Rattle.model.specs.Refusals.{refusal, isNone, planRefusal}
+use Rattle.model.specs.Request.{Request, leasts, frameCount}
+use Rattle.model.specs.Refusals.{isNone, isUnreachable, reachable, reachableUnlimited, planRefusal}
 use Rattle.model.specs.Charge.{FrameEnd, frameEnd, endsFrom, charges, losses}
 use Rattle.model.specs.Plan.{planOf}
 use Rattle.model.proofs.Needed.{needed-is}
-use Rattle.model.proofs.Refusals.{NotNine, plan-nine}
-use Rattle.model.proofs.Request.{plan-is, out-of-reach}
+use Rattle.model.proofs.Reach.{reachable-is, reachable-open, feasible-open, none-feasible}
+use Rattle.model.proofs.Refusals.{Other, plan-unreachable}
+use Rattle.model.proofs.Request.{plan-is}
 use Rattle.model.proofs.Trace.{ends, feasible-length}
 use Rattle.request.proofs.Within.{plan-within}
 use Rattle.wordfile.specs.File.{requestIn, readRefusal}
 use Rattle.wordfile.proofs.Refused.{read-small}
-use Rattle.wordfile.specs.declared.form.Form.the-variants.{Closed, Broken}
 use Rattle.text.specs.Line.{lineOf, linesOf}
 use Rattle.text.proofs.Line.{line-byte}
 use Rattle.text.proofs.Tells.{AllLong, line-same, lines-same}
@@ -100,6 +102,10 @@ refused-same f g e =
     let z = a .0 in
     cc
 
+-- and so whether it is 9 or 11
+same-reach : (f g : Refusal) → refusedLine f ≡ refusedLine g → isUnreachable f ≡ isUnreachable g
+same-reach f g e = ap (λ (n : ℕ). eqb n 9 || eqb n 11) (refused-same f g e)
+
 -- and begins with another letter than figures do
 refusal-no-figures : (f : Refusal) (g : Shown) → refusedLine f ≡ showing g → ⊥
 refusal-no-figures f g e =
@@ -130,11 +136,18 @@ ends-paired q bs l =
     let n = ends-length (q .figures .capacity) (q .figures .start) (q .harvest) bs l in
     (length-map es (λ (e : FrameEnd). e .charge) ∙ n, length-map es (λ (e : FrameEnd). e .lost) ∙ n)
 
+-- what can be reached with the capacity can be reached without limit
+pub open-reach : (q : Request) → reachable q ≡ true → reachableUnlimited q ≡ true
+open-reach q h = reachable-open q ∙ feasible-open q (q .figures .capacity) (leasts q) (sym (reachable-is q) ∙ h)
+
 request-means : (q : Request) → ListMeans q (requestText q)
 request-means q = go (isNone f) refl
   where
+    k : ℕ
+    k = frameCount q
+
     f : Refusal
-    f = planRefusal q (frameCount q)
+    f = planRefusal q k k k
 
     g : Shown
     g = shownOf q (planOf q)
@@ -142,14 +155,14 @@ request-means q = go (isNone f) refl
     -- not refused: it shows the plan's figures, so whatever figures it shows are those
     go : (t : Bool) → isNone f ≡ t → ListMeans q (pick t (showing g) (refusedLine f))
     go true ok =
-        let w = plan-within q (frameCount q) ok in
+        let w = plan-within q k k k ok .served in
         let p = plan-is q (w .figures .start-fits) (w .figures .end-fits) (w .reach) in
         let l = ends-paired q (planOf q) (feasible-length q (planOf q) (p .is-feasible)) in
         let r : Right q g =
         record {
           frames = refl;
           capacity = refl;
-          needed = needed-is q (w .reach);
+          needed = needed-is q (open-reach q (w .reach));
           plan = p;
           after = refl;
           lost = refl;
@@ -160,20 +173,23 @@ request-means q = go (isNone f) refl
         record {
           form = inl (g, (l, refl));
           right = λ h s. subst (Right q) (shown-same g h l (s .0) (s .1)) r;
-          no-plan = λ p e. absurd (refusal-no-figures (refusal 9 p) g (sym e));
+          no-plan = λ f u e. absurd (refusal-no-figures f g (sym e));
         }
-    go false k =
+    go false n =
         record {
           form = inr (f, refl);
           right = λ g s. absurd (refusal-no-figures f g (s .1));
-          no-plan = λ p e. out-of-reach q (plan-nine q (frameCount q) (refused-same f (refusal 9 p) e));
+          no-plan = λ h u e. none-feasible q (plan-unreachable q k k k (same-reach f h e ∙ u));
         }
 
 -- ---- the listing of a file
 
--- no refusal of the reader is 9
-read-not-nine : (s : List ℕ) (room : ℕ) → NotNine (readRefusal s room)
-read-not-nine s room = λ p. omega (arith, read-small s room .0)
+-- no refusal of the reader is 9 or 11
+read-other : (s : List ℕ) → Other (readRefusal s maxFrames maxFrames maxFrames)
+read-other s =
+    let n = readRefusal s maxFrames maxFrames maxFrames .number in
+    let h = read-small s maxFrames maxFrames maxFrames .0 in
+    rw (ne-eqb n 9 (λ p. omega arith), ne-eqb n 11 (λ p. omega arith)) refl
 
 -- the listing of a file means what it shows of the file's request
 pub listing-means : (s : List ℕ) → ListMeans (requestIn s) (listing s)
@@ -183,7 +199,7 @@ listing-means s = go (isNone f)
     q = requestIn s
 
     f : Refusal
-    f = readRefusal s maxFrames
+    f = readRefusal s maxFrames maxFrames maxFrames
 
     go : (t : Bool) → ListMeans q (pick t (requestText q) (refusedLine f))
     go true = request-means q
@@ -191,5 +207,5 @@ listing-means s = go (isNone f)
         record {
           form = inr (f, refl);
           right = λ g s. absurd (refusal-no-figures f g (s .1));
-          no-plan = λ p e. absurd (read-not-nine s maxFrames (refused-same f (refusal 9 p) e));
+          no-plan = λ h u e. absurd (false≢true (sym (read-other s) ∙ (same-reach f h e ∙ u)));
         }

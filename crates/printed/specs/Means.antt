@@ -1,12 +1,12 @@
 -- What can be read from a listing.
 use mathlib.Core.Path.{_≡_}
 use mathlib.Core.Logic.{_⊎_}
-use mathlib.Core.Bool.{false}
+use mathlib.Core.Bool.{true, false}
 use mathlib.Core.List.{List}
 use Prim.Native.Nat.{ℕ}
 use lib.ListN.{length}
 use Rattle.model.specs.Request.{Request, frameCount}
-use Rattle.model.specs.Refusals.{refusal}
+use Rattle.model.specs.Refusals.{isUnreachable}
 use Rattle.model.specs.declared.Refusal.{Refusal}
 use Rattle.model.specs.Charge.{feasible, charges, losses}
 use Rattle.model.specs.Curves.{houseCurve, grade}
@@ -40,5 +40,5 @@ pub record ListMeans (q : Request) (t : List ℕ) : Type 0 where
   pub form : ((g : Shown) × Shows t g) ⊎ ((f : Refusal) × (t ≡ refusedLine f))
   -- whatever figures it shows, they are right: the budgets are the plan, the number is the needed capacity
   pub right : (g : Shown) → Shows t g → Right q g
-  -- after "refused 9", whatever its P, nothing is feasible
-  pub no-plan : (p : ℕ) → t ≡ refusedLine (refusal 9 p) → (cs : List ℕ) → feasible q cs ≡ false
+  -- after "refused 9" or "refused 11", whatever its P, nothing is feasible
+  pub no-plan : (f : Refusal) → isUnreachable f ≡ true → t ≡ refusedLine f → (cs : List ℕ) → feasible q cs ≡ false

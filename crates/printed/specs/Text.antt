@@ -122,14 +122,19 @@ shownOf q bs =
       worth2 = grade (houseCurve 2) bs;
     }
 
+-- the text of its plan
+abbrev pub planText : Request → List ℕ
+planText q = showing (shownOf q (planOf q))
+
 -- the listing of a request: its plan, or its refusal
 abbrev pub requestText : Request → List ℕ
 requestText q =
-    let f = planRefusal q (frameCount q) in
-    pick (isNone f) (showing (shownOf q (planOf q))) (refusedLine f)
+    let k = frameCount q in
+    let f = planRefusal q k k k in
+    pick (isNone f) (planText q) (refusedLine f)
 
 -- what the plan program prints of a file: the reader's refusal, or the listing of its request
 abbrev pub listing : List ℕ → List ℕ
 listing s =
-    let f = readRefusal s maxFrames in
+    let f = readRefusal s maxFrames maxFrames maxFrames in
     pick (isNone f) (requestText (requestIn s)) (refusedLine f)

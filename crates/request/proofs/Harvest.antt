@@ -3,6 +3,7 @@ use mathlib.Core.Path.{_≡_, refl, sym, ap, _∙_}
 use mathlib.Core.Bool.{Bool, true, false, false≢true}
 use mathlib.Core.List.{List, [], _∷_}
 use Prim.Native.Nat.{ℕ, zero, suc, _+_, _-_, _*_, _≤_, _<_}
+use native.Mathlib.Nat.{mul-le-mul-left}
 use native.Mathlib.Omega.{arith}
 use native.Mathlib.Numerals.{add-one}
 use lib.Dec.{ltb}
@@ -10,7 +11,7 @@ use lib.ListN.{length, getD, drop, drop-of-length-le}
 use lib.Seq.{drop-cons}
 use borrow.Author.Tests.{lt-ltb, le-ltb, ltb-false}
 use Rattle.model.specs.declared.Refusal.{Refusal}
-use Rattle.model.specs.Limits.{maxHarvest}
+use Rattle.model.specs.Limits.{maxFrames, maxHarvest}
 use Rattle.model.specs.Choice.{pick}
 use Rattle.model.proofs.Choice.{pick-by}
 use Rattle.model.specs.Request.{Request, total, mostEnergy}
@@ -72,6 +73,11 @@ harvest-small k (h ∷ hs) e i = go (ltb maxHarvest h) refl e (harvest-small (su
 pub total-small : (m : ℕ) (hs : List ℕ) → ((i : ℕ) → getD hs i 0 ≤ m) → total hs ≤ m * length hs
 total-small m [] h = omega arith
 total-small m (x ∷ hs) h = let r = total-small m hs (λ i. h (suc i)) in omega (arith, h 0)
+
+-- the sum of all harvests that a request may have
+pub total-fits : (hs : List ℕ) → ((i : ℕ) → getD hs i 0 ≤ maxHarvest) → length hs ≤ maxFrames →
+    total hs ≤ maxHarvest * maxFrames
+total-fits hs h k = omega (arith, total-small maxHarvest hs h, mul-le-mul-left maxHarvest k)
 
 -- one more entry of a list summed
 pub total-more : (i : ℕ) (hs : List ℕ) → i < length hs → total (drop i hs) ≡ getD hs i 0 + total (drop (i + 1) hs)

@@ -1,18 +1,18 @@
 -- What it says of a request that none of its refusals holds.
-use mathlib.Core.Path.{_≡_, refl}
-use mathlib.Core.Bool.{Bool, true, false, not, false≢true}
+use mathlib.Core.Path.{_≡_, refl, ap}
+use mathlib.Core.Bool.{Bool, true, false, not}
 use mathlib.Core.List.{[], _∷_, _++_}
-use Prim.Native.Nat.{ℕ, suc, _+_, _-_, _≤_}
+use Prim.Native.Nat.{ℕ, suc, _≤_}
 use native.Mathlib.Omega.{arith}
 use lib.Dec.{ltb, eqb}
 use lib.ListN.{getD}
 use borrow.Author.Tests.{ltb-false, eqb-true, eqb-false, not-false}
-use Rattle.model.specs.Choice.{pick}
+use Rattle.model.specs.declared.Refusal.{Refusal}
 use Rattle.model.specs.Limits.{maxFrames, maxHarvest, maxCapacity}
-use Rattle.model.specs.Request.{Request, frameCount, mostEnergy}
+use Rattle.model.specs.Request.{Request, frameCount}
 use Rattle.model.specs.Refusals as R
 use Rattle.model.specs.Refusals.{isNone, refuseIf, AllNone}
-use Rattle.model.proofs.First.{first-none, both-none}
+use Rattle.model.proofs.First.{first-none, none-first, both-none}
 use Rattle.request.proofs.Harvest.{harvest-small}
 
 -- where a refusal made by a test is none, the test failed
@@ -55,14 +55,6 @@ figures-within r a =
       harvest-fits = harvest-small 1 (r .harvest) (a .1 .1 .1 .0);
     }
 
--- not refusal 9
-pub reach-within : (r : Request) → isNone (R.outOfReach r) ≡ true → r .figures .end ≤ mostEnergy r
-reach-within r e = ltb-false (mostEnergy r) (r .figures .end) (go (ltb (mostEnergy r) (r .figures .end)) e)
-  where
-    go : (t : Bool) → isNone (pick t (R.refusal 9 (r .figures .end - mostEnergy r)) R.none) ≡ true → t ≡ false
-    go true q = absurd (false≢true q)
-    go false q = refl
-
 -- tracing is not refused
 pub record TraceWithin (r : Request) (n m l : ℕ) : Type 0 where
   pub frames : FramesWithin (frameCount r)
@@ -85,61 +77,93 @@ trace-within r n m l e =
       figures = figures-within r (a .1 .1 .1 .1);
     }
 
--- planning is not refused
-pub record PlanWithin (r : Request) (n : ℕ) : Type 0 where
-  pub frames : FramesWithin (frameCount r)
-  pub budgets : n ≡ frameCount r
-  pub figures : FiguresWithin r
-  pub reach : r .figures .end ≤ mostEnergy r
+-- lists of leasts and mosts with an entry for each of a few frames
+pub record LentWithin (k l m : ℕ) : Type 0 where
+  pub frames : FramesWithin k
+  pub leasts : l ≡ k
+  pub mosts : m ≡ k
 
-pub plan-within : (r : Request) (n : ℕ) → isNone (R.planRefusal r n) ≡ true → PlanWithin r n
-plan-within r n e =
-    let k = frameCount r in
-    let last = R.outOfReach r ∷ [] in
-    let a = both-none (R.framesRefusals k) (R.wrongLength k n ∷ (R.figureRefusals r ++ last))
-    (first-none (R.planRefusals r n) e) in
-    let b = both-none (R.figureRefusals r) last (a .1 .1) in
+pub lent-within : (k l m : ℕ) → AllNone (R.lentRefusals k l m) → LentWithin k l m
+lent-within k l m a =
     record {
-      frames = frames-within k (a .0);
+      frames = frames-within k (a .0, (a .1 .0, tt));
+      leasts = length-within k l (a .1 .1 .0);
+      mosts = length-within k m (a .1 .1 .1 .0);
+    }
+
+-- none of refusals 3 to 6 and 9 to 11
+pub record ServedWithin (r : Request) : Type 0 where
+  pub figures : FiguresWithin r
+  pub reach : R.reachable r ≡ true
+
+-- where neither refusal 9 nor 11 holds, both together don't
+reach-within : (f g : Refusal) → isNone f ≡ true → isNone g ≡ true → isNone (R.firstOf (f ∷ g ∷ [])) ≡ true
+reach-within f g p q = ap isNone (none-first (f ∷ g ∷ []) (p, (q, tt)))
+
+pub served-within : (r : Request) → AllNone (R.servedRefusals r) → ServedWithin r
+served-within r e =
+    let a = both-none (R.figureRefusals r) (R.boundRefusals r) e in
+    record {
+      figures = figures-within r (a .0);
+      reach = reach-within (R.outOfReach r) (R.leastsRefused r) (a .1 .1 .0) (a .1 .1 .1 .0);
+    }
+
+-- planning is not refused
+pub record PlanWithin (r : Request) (l m n : ℕ) : Type 0 where
+  pub lent : LentWithin (frameCount r) l m
+  pub budgets : n ≡ frameCount r
+  pub served : ServedWithin r
+
+pub plan-within : (r : Request) (l m n : ℕ) → isNone (R.planRefusal r l m n) ≡ true → PlanWithin r l m n
+plan-within r l m n e =
+    let k = frameCount r in
+    let a = both-none (R.lentRefusals k l m) (R.wrongLength k n ∷ R.servedRefusals r)
+    (first-none (R.planRefusals r l m n) e) in
+    record {
+      lent = lent-within k l m (a .0);
       budgets = length-within k n (a .1 .0);
-      figures = figures-within r (b .0);
-      reach = reach-within r (b .1 .0);
+      served = served-within r (a .1 .1);
     }
 
 -- starting a shift is not refused
-pub record StartWithin (r : Request) : Type 0 where
-  pub frames : FramesWithin (frameCount r)
-  pub figures : FiguresWithin r
-  pub reach : r .figures .end ≤ mostEnergy r
+pub record StartWithin (r : Request) (l m : ℕ) : Type 0 where
+  pub lent : LentWithin (frameCount r) l m
+  pub served : ServedWithin r
 
-pub start-within : (r : Request) → isNone (R.startRefusal r) ≡ true → StartWithin r
-start-within r e =
-    let last = R.outOfReach r ∷ [] in
-    let a = both-none (R.framesRefusals (frameCount r)) (R.figureRefusals r ++ last)
-    (first-none (R.startRefusals r) e) in
-    let b = both-none (R.figureRefusals r) last (a .1) in
-    record {
-      frames = frames-within (frameCount r) (a .0);
-      figures = figures-within r (b .0);
-      reach = reach-within r (b .1 .0);
-    }
+pub start-within : (r : Request) (l m : ℕ) → isNone (R.startRefusal r l m) ≡ true → StartWithin r l m
+start-within r l m e =
+    let k = frameCount r in
+    let a = both-none (R.lentRefusals k l m) (R.servedRefusals r) (first-none (R.startRefusals r l m) e) in
+    record { lent = lent-within k l m (a .0); served = served-within r (a .1) }
 
--- the needed capacity is not refused
-pub record NeededWithin (r : Request) : Type 0 where
-  pub frames : FramesWithin (frameCount r)
+-- start, end and harvests within the limits of the needed capacity
+pub record OpenWithin (r : Request) : Type 0 where
   pub start-small : r .figures .start ≤ maxCapacity
   pub end-small : r .figures .end ≤ maxCapacity
   pub harvest-fits : (i : ℕ) → getD (r .harvest) i 0 ≤ maxHarvest
-  pub reach : r .figures .end ≤ mostEnergy r
 
-pub needed-within : (r : Request) → isNone (R.neededRefusal r) ≡ true → NeededWithin r
-needed-within r e =
-    let a = first-none (R.neededRefusals r) e in
-    let b = a .1 .1 in
+pub open-within : (r : Request) → AllNone (R.openLimits r) → OpenWithin r
+open-within r a =
     record {
-      frames = frames-within (frameCount r) (a .0, (a .1 .0, tt));
-      start-small = capacity-within (r .figures .start) (b .0);
-      end-small = capacity-within (r .figures .end) (b .1 .0);
-      harvest-fits = harvest-small 1 (r .harvest) (b .1 .1 .0);
-      reach = reach-within r (b .1 .1 .1 .0);
+      start-small = capacity-within (r .figures .start) (a .0);
+      end-small = capacity-within (r .figures .end) (a .1 .0);
+      harvest-fits = harvest-small 1 (r .harvest) (a .1 .1 .0);
+    }
+
+-- the needed capacity is not refused
+pub record NeededWithin (r : Request) (l m : ℕ) : Type 0 where
+  pub lent : LentWithin (frameCount r) l m
+  pub limits : OpenWithin r
+  pub reach : R.reachableUnlimited r ≡ true
+
+pub needed-within : (r : Request) (l m : ℕ) → isNone (R.neededRefusal r l m) ≡ true → NeededWithin r l m
+needed-within r l m e =
+    let k = frameCount r in
+    let a = both-none (R.lentRefusals k l m) (R.openLimits r ++ R.openRefusals r)
+    (first-none (R.neededRefusals r l m) e) in
+    let b = both-none (R.openLimits r) (R.openRefusals r) (a .1) in
+    record {
+      lent = lent-within k l m (a .0);
+      limits = open-within r (b .0);
+      reach = reach-within (R.outOfReach r) (R.leastsRefusedUnlimited r) (b .1 .1 .0) (b .1 .1 .1 .0);
     }

@@ -3,6 +3,7 @@ use mathlib.Core.Path.{_≡_, refl, sym, ap, _∙_}
 use mathlib.Core.Bool.{Bool, true, false, not, false≢true}
 use mathlib.Core.List.{List, [], _∷_, _++_}
 use Prim.Native.Nat.{ℕ, suc, _+_, _-_, _*_, _≤_, _<_}
+use native.Mathlib.Numerals.{add-one}
 use native.Mathlib.Omega.{arith}
 use lib.Dec.{eqb}
 use lib.ListN.{length, getD, take, drop, length-drop, take-append-drop}
@@ -11,14 +12,16 @@ use borrow.Author.Tests.{eq-eqb, ne-eqb}
 use Rattle.model.specs.declared.Refusal.{Refusal}
 use Rattle.model.specs.Choice.{pick}
 use Rattle.model.specs.Limits.{maxHarvest}
-use Rattle.model.specs.Refusals.{isNone, refuseIf, firstOf}
-use Rattle.model.proofs.First.{first-none, none-first, both-none, firstOf-append, firstOf-one}
-use Rattle.request.proofs.Harvest.{over-none, harvest-small}
+use Rattle.model.specs.Request.{boundsOf}
+use Rattle.model.specs.Refusals.{isNone, refuseIf, firstOf, harvestOverLimit, boundsRefused}
+use Rattle.model.proofs.First.{first-none, none-first, both-none, first-stopped, first-passed}
+use Rattle.request.proofs.Harvest.{harvest-small}
 use Rattle.request.proofs.Within.{length-within}
 use Rattle.model.proofs.Choice.{pick-by}
 use Rattle.shift.specs.declared.Shift.{Shift}
 use Rattle.shift.specs.Shift.{isShift, notShift}
-use Rattle.rest.specs.Rest.{partRefusals, partRefusal, readyRefusals, restOverLimit, restRefusals, restRefusal}
+use Rattle.rest.specs.Rest.{Lists, partRefusals, partRefusal, readyRefusals, restOverLimit, restBounds}
+use Rattle.rest.specs.Rest.{restRefusals, restRefusal}
 use Rattle.rest.specs.Says.{PartSays}
 use Rattle.shift.proofs.Record.{Sound, sound-by, open-frame}
 
@@ -90,73 +93,80 @@ part-returned s b part at o f q d e n =
 pub part-is : (n : ℕ) (b : List ℕ) → take (length b - n) (drop n b) ≡ drop n b
 part-is n b = take-all (length b - n) (drop n b) (omega (arith, length-drop n b))
 
--- what planning has before it looks at the harvests
-pub record Ready (s : Shift) (h b : ℕ) : Type 0 where
+-- lists of one length have rests of one length
+pub same-rest : (n : ℕ) (xs ys : List ℕ) → length xs ≡ length ys → length (drop n xs) ≡ length (drop n ys)
+same-rest n xs ys e = omega (arith, length-drop n xs, length-drop n ys)
+
+-- 6 and 10 over the parts that the slices are
+pub frames-are : (n : ℕ) (hs ls ms : List ℕ) →
+    firstOf (harvestOverLimit (n + 1) (take (length hs - n) (drop n hs)) ∷ boundsRefused (n + 1)
+    (boundsOf (take (length ls - n) (drop n ls)) (take (length ms - n) (drop n ms))) ∷ [])
+    ≡ firstOf
+    (harvestOverLimit (suc n) (drop n hs) ∷ boundsRefused (suc n) (boundsOf (drop n ls) (drop n ms)) ∷ [])
+frames-are n hs ls ms = rw (add-one n, part-is n hs, part-is n ls, part-is n ms) refl
+
+-- what planning has before it looks at the frames
+pub record Ready (s : Shift) (h l m b : ℕ) : Type 0 where
   pub sound : Sound s
   pub harvest-fits : h ≡ s .terms .frames
+  pub leasts-fit : l ≡ s .terms .frames
+  pub mosts-fit : m ≡ s .terms .frames
   pub budgets-fit : b ≡ s .terms .frames
   pub more : s .now .recorded < s .terms .frames
 
 -- its refusals, 22 in front
-abbrev pub readyList : Shift → ℕ → ℕ → List Refusal
-readyList s h b = notShift s ∷ readyRefusals (s .terms) (s .now) h b
+abbrev pub readyList : Shift → ℕ → ℕ → ℕ → ℕ → List Refusal
+readyList s h l m b = notShift s ∷ readyRefusals (s .terms) (s .now) h l m b
 
-pub ready : (s : Shift) (h b : ℕ) → isNone (firstOf (readyList s h b)) ≡ true → Ready s h b
-ready s h b e =
-    let a = first-none (readyList s h b) e in
+pub ready : (s : Shift) (h l m b : ℕ) → isNone (firstOf (readyList s h l m b)) ≡ true → Ready s h l m b
+ready s h l m b e =
+    let k = s .terms .frames in
+    let a = first-none (readyList s h l m b) e in
     let sound = sound-by s (a .0) in
-    let more = open-frame (s .terms) (s .now) (a .1 .1 .1 .0) in
+    let more = open-frame (s .terms) (s .now) (a .1 .1 .1 .1 .1 .0) in
     record {
       sound = sound;
-      harvest-fits = length-within (s .terms .frames) h (a .1 .0);
-      budgets-fit = length-within (s .terms .frames) b (a .1 .1 .0);
+      harvest-fits = length-within k h (a .1 .0);
+      leasts-fit = length-within k l (a .1 .1 .0);
+      mosts-fit = length-within k m (a .1 .1 .1 .0);
+      budgets-fit = length-within k b (a .1 .1 .1 .1 .0);
       more = omega arith;
     }
 
--- the refusals of planning: those before the harvests, then 6
-planning-split :
-    (s : Shift) (hs : List ℕ) (b : ℕ) →
-    restRefusal s hs b
-    ≡ pick
-    (isNone (firstOf (readyList s (length hs) b)))
-    (firstOf (restOverLimit (s .now) hs ∷ []))
-    (firstOf (readyList s (length hs) b))
-planning-split s hs b = firstOf-append (readyList s (length hs) b) (restOverLimit (s .now) hs ∷ [])
+-- the same with the lists
+abbrev pub readyBy : Shift → Lists → ℕ → List Refusal
+readyBy s p b = readyList s (length (p .harvest)) (length (p .least)) (length (p .most)) b
 
--- one of those before the harvests
+-- 6 and 10 over the frames that are left
+abbrev pub framesBy : Shift → Lists → List Refusal
+framesBy s p = restOverLimit (s .now) (p .harvest) ∷ restBounds (s .now) (p .least) (p .most) ∷ []
+
+-- one of those before the frames
 pub rest-stopped :
-    (s : Shift) (hs : List ℕ) (b : ℕ) (f : Refusal) → f ≡ firstOf (readyList s (length hs) b) → isNone f ≡ false →
-    f ≡ restRefusal s hs b
-rest-stopped s hs b f e n =
-    let r = firstOf (readyList s (length hs) b) in
-    e
-    ∙ sym
-    (planning-split s hs b
-    ∙ pick-by (isNone r) false (firstOf (restOverLimit (s .now) hs ∷ [])) r (ap isNone (sym e) ∙ n))
+    (s : Shift) (p : Lists) (b : ℕ) (f : Refusal) → f ≡ firstOf (readyBy s p b) → isNone f ≡ false →
+    f ≡ restRefusal s p b
+rest-stopped s p b f e n = first-stopped (readyBy s p b) (framesBy s p) e n
 
--- none of them: what 6 says
+-- none of them: what the frames say
 pub rest-limited :
-    (s : Shift) (hs : List ℕ) (b : ℕ) → isNone (firstOf (readyList s (length hs) b)) ≡ true →
-    restOverLimit (s .now) hs ≡ restRefusal s hs b
-rest-limited s hs b n =
-    let r = firstOf (readyList s (length hs) b) in
-    let six = restOverLimit (s .now) hs in
-    sym
-    (planning-split s hs b
-    ∙ pick-by (isNone r) true (firstOf (six ∷ [])) r n
-    ∙ firstOf-one six (over-none (suc (s .now .recorded)) (drop (s .now .recorded) hs)))
+    (s : Shift) (p : Lists) (b : ℕ) (f g : Refusal) → f ≡ firstOf (readyBy s p b) → isNone f ≡ true →
+    g ≡ firstOf (framesBy s p) → g ≡ restRefusal s p b
+rest-limited s p b f g e n d = first-passed (readyBy s p b) (framesBy s p) e n d
 
 -- what a planning that is not refused has
-pub record RestOpen (s : Shift) (hs : List ℕ) (b : ℕ) : Type 0 where
-  pub ready : Ready s (length hs) b
-  pub small : (i : ℕ) → getD (drop (s .now .recorded) hs) i 0 ≤ maxHarvest
+pub record RestOpen (s : Shift) (p : Lists) (b : ℕ) : Type 0 where
+  pub ready : Ready s (length (p .harvest)) (length (p .least)) (length (p .most)) b
+  pub small : (i : ℕ) → getD (drop (s .now .recorded) (p .harvest)) i 0 ≤ maxHarvest
+  pub bounds-good : isNone (restBounds (s .now) (p .least) (p .most)) ≡ true
 
-pub rest-open : (s : Shift) (hs : List ℕ) (b : ℕ) → isNone (restRefusal s hs b) ≡ true → RestOpen s hs b
-rest-open s hs b e =
-    let six = restOverLimit (s .now) hs in
+pub rest-open : (s : Shift) (p : Lists) (b : ℕ) → isNone (restRefusal s p b) ≡ true → RestOpen s p b
+rest-open s p b e =
     let n = s .now .recorded in
-    let x = both-none (readyList s (length hs) b) (six ∷ []) (first-none (restRefusals s hs b) e) in
+    let x = both-none (readyBy s p b) (framesBy s p) (first-none (restRefusals s p b) e) in
     record {
-      ready = ready s (length hs) b (ap isNone (none-first (readyList s (length hs) b) (x .0)));
-      small = harvest-small (suc n) (drop n hs) (x .1 .0);
+      ready =
+          ready s (length (p .harvest)) (length (p .least)) (length (p .most)) b
+          (ap isNone (none-first (readyBy s p b) (x .0)));
+      small = harvest-small (suc n) (drop n (p .harvest)) (x .1 .0);
+      bounds-good = x .1 .1 .0;
     }

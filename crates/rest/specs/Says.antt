@@ -10,8 +10,8 @@ use Rattle.model.specs.Refusals.{Outcome, gives, refuses, outcome, isNone}
 use Rattle.shift.specs.declared.Shift.{Shift}
 use Rattle.rest.specs.declared.RestAnswer.{RestAnswer}
 use Rattle.rest.specs.declared.RestAnswer.the-variants as rest
-use Rattle.rest.specs.Rest.{Ending, notShort, endingOf, restRequest, restRefusal, restBudgets, partRefusal}
-use Rattle.rest.specs.Rest.{writtenFrom, RestMeans}
+use Rattle.rest.specs.Rest.{Lists, Ending, notShort, endingOf, restRequest, restRefusal, restBudgets}
+use Rattle.rest.specs.Rest.{partRefusal, writtenFrom, RestMeans}
 
 -- what planning's answer says in document 01's terms: a refusal, or how the planning ended
 abbrev pub restSaid : RestAnswer → Outcome Ending
@@ -19,19 +19,19 @@ restSaid rest.Planned = gives notShort
 restSaid (rest.Short m) = gives (record { short = true; missing = m })
 restSaid (rest.Refused f) = refuses f
 
--- planning the rest by harvests hs: budgets b before, b′ after
-pub record RestSays (s : Shift) (hs b b′ : List ℕ) (a : RestAnswer) : Type 0 where
+-- planning the rest by the lists lent: budgets b before, b′ after
+pub record RestSays (s : Shift) (p : Lists) (b b′ : List ℕ) (a : RestAnswer) : Type 0 where
   -- planned, short with the missing amount, or the first refusal
-  pub answer : restSaid a ≡ outcome (restRefusal s hs (length b)) (endingOf (restRequest s hs))
+  pub answer : restSaid a ≡ outcome (restRefusal s p (length b)) (endingOf (restRequest s p))
   -- the rest's budgets from the next frame on, earlier entries kept; after a refusal all of them
   pub budgets :
       b′
       ≡ pick
-      (isNone (restRefusal s hs (length b)))
-      (writtenFrom (s .now .recorded) b (restBudgets (restRequest s hs)))
+      (isNone (restRefusal s p (length b)))
+      (writtenFrom (s .now .recorded) b (restBudgets (restRequest s p)))
       b
   -- planned: the plan of the rest; short: nothing is feasible
-  pub means : RestMeans (restRefusal s hs (length b)) (s .now .recorded) (restRequest s hs) b b′
+  pub means : RestMeans (restRefusal s p (length b)) (s .now .recorded) (restRequest s p) b b′
 
 -- the part of budgets b that begins at the next frame: its contents, its position from the lent list's, and number
 -- and P of the refusal

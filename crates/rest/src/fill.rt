@@ -1,10 +1,15 @@
 // The budgets of the rest, written into the part that is lent on.
 ghost use mathlib.Core.Path.{_≡_};
 ghost use lib.ListN.{length, replicate};
-ghost use Rattle.model.specs.Request.{request};
+ghost use Rattle.model.specs.Request.{boundedRequest};
+ghost use Rattle.model.specs.Refusals.{gives};
 ghost use Rattle.rest.specs.Rest.{Fillable, endingOf, restBudgets};
+ghost use Rattle.rest.specs.Says.{restSaid};
+use crate::RestAnswer;
 use leveller::plan_into;
 use model::Figures;
+use request::is_none;
+use request::unreachable_refusal;
 
 // Makes every entry 0.
 fn clear(list: &mut [u32])
@@ -17,20 +22,39 @@ fn clear(list: &mut [u32])
     }
 }
 
-// Writes the plan, or zeros where the end charge is out of reach, and gives the missing amount, 0 if nothing is
-// missing.
-pub fn fill(figures: Figures, harvest: &[u32], budgets: &mut [u32]) -> u64
-    requires { ⌜ Fillable (request figures (now harvest)) × (length (now budgets) ≡ length (now harvest)) ⌝ }
-    ensures missing { λ r. ⌜ r ≡ endingOf (request figures (now (harvest .entry))) .missing ⌝ }
-    ensures written { λ _. ⌜ now (budgets .exit) ≡ restBudgets (request figures (now (harvest .entry))) ⌝ }
+// Writes the plan, or zeros where by refusal 9 or 11 there is none. What zeros miss of the end charge is P of that
+// refusal.
+pub fn fill(
+    figures: Figures,
+    harvest: &[u32],
+    least: &[u32],
+    most: &[u32],
+    budgets: &mut [u32],
+) -> RestAnswer
+    requires { ⌜ Fillable (boundedRequest figures (now harvest) (now least) (now most)) ×
+        (length (now least) ≡ length (now harvest)) × (length (now most) ≡ length (now harvest)) ×
+        (length (now budgets) ≡ length (now harvest)) ⌝ }
+    ensures ending { λ r. ⌜ restSaid r ≡ gives (endingOf (boundedRequest figures (now (harvest .entry))
+        (now (least .entry)) (now (most .entry)))) ⌝ }
+    ensures written { λ _. ⌜ now (budgets .exit) ≡ restBudgets (boundedRequest figures (now (harvest .entry))
+        (now (least .entry)) (now (most .entry))) ⌝ }
 {
-    let start = figures.start as u64;
-    let end = figures.end as u64;
-    let most = start + request::sum(harvest);
-    if most < end {
+    let unreachable = unreachable_refusal(figures, harvest, least);
+    if !is_none(unreachable) {
         clear(budgets);
-        return end - most;
+        return RestAnswer::Short(unreachable.p);
     }
-    plan_into(figures.capacity as u64, start, end, most, harvest, budgets);
-    0
+    let start = figures.start as u64;
+    let energy = start + request::sum(harvest);
+    plan_into(
+        figures.capacity as u64,
+        start,
+        figures.end as u64,
+        energy,
+        harvest,
+        least,
+        most,
+        budgets,
+    );
+    RestAnswer::Planned
 }

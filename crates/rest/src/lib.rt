@@ -1,5 +1,6 @@
 // The rest of a shift: planned anew at any time, and the part of the budgets that is left.
 ghost use denote.Ref.{ptr};
+ghost use Rattle.rest.specs.Rest.{lists};
 ghost use Rattle.rest.specs.Says.{RestSays, PartSays};
 use model::Figures;
 use model::Refusal;
@@ -9,19 +10,26 @@ use shift::Shift;
 mod fill;
 mod refusals;
 
-// What planning the rest answers; short comes with the missing amount.
+// What planning the rest answers; short comes with what zero budgets miss of the end charge, which may be nothing.
 pub enum RestAnswer {
     Planned,
     Short(u64),
     Refused(Refusal),
 }
 
-// Plans the rest of a shift by the harvests lent. The unrecorded part of the budgets is lent on, to be filled with
-// the plan, or with zeros where the rest is short.
-pub fn plan_rest(shift: Shift, harvest: &[u32], budgets: &mut [u32]) -> RestAnswer
-    ensures { λ r. ⌜ RestSays shift (now (harvest .entry)) (now (budgets .entry)) (now (budgets .exit)) r ⌝ }
+// Plans the rest of a shift by the harvests, leasts and mosts lent. The unrecorded part of the budgets is lent on, to be
+// filled with the plan, or with zeros where the rest is short.
+pub fn plan_rest(
+    shift: Shift,
+    harvest: &[u32],
+    least: &[u32],
+    most: &[u32],
+    budgets: &mut [u32],
+) -> RestAnswer
+    ensures { λ r. ⌜ RestSays shift (lists (now (harvest .entry)) (now (least .entry)) (now (most .entry)))
+        (now (budgets .entry)) (now (budgets .exit)) r ⌝ }
 {
-    let refusal = refusals::rest_refusal(shift, harvest, budgets.len());
+    let refusal = refusals::rest_refusal(shift, harvest, least, most, budgets.len());
     if !is_none(refusal) {
         return RestAnswer::Refused(refusal);
     }
@@ -31,11 +39,13 @@ pub fn plan_rest(shift: Shift, harvest: &[u32], budgets: &mut [u32]) -> RestAnsw
         end: shift.terms.end,
     };
     let from = shift.now.recorded as usize;
-    let missing = fill::fill(figures, &harvest[from..], &mut budgets[from..]);
-    if missing == 0 {
-        return RestAnswer::Planned;
-    }
-    RestAnswer::Short(missing)
+    fill::fill(
+        figures,
+        &harvest[from..],
+        &least[from..],
+        &most[from..],
+        &mut budgets[from..],
+    )
 }
 
 // The part of the budgets that begins at the next frame, lying where they lie. The refusal goes to the lent number

@@ -17,13 +17,13 @@ pub record Scanned (e : ℕ) (fs : List Frame) (i y l : ℕ) (ok : Bool) : Type 
   pub fails : ok ≡ false → y < reserveAt e fs i l
 
 -- whether level l goes on from charge y at frame i on
-abbrev pub ScannedAt : Rule → List ℕ → ℕ → ℕ → ℕ → Bool → Type 0
-ScannedAt r hs i y l ok = Scanned (r .end) (frames r hs) i y l ok
+abbrev pub ScannedAt : Rule → List ℕ → List ℕ → List ℕ → ℕ → ℕ → ℕ → Bool → Type 0
+ScannedAt r hs ls ms i y l ok = Scanned (r .end) (frames r hs ls ms) i y l ok
 
 -- g holds the budget of frame f, which has a and comes before frame i
-abbrev pub BetweenAt : Rule → List ℕ → ℕ → At → ℕ → Range → Type 0
-BetweenAt r hs i f a g = Between (r .end) (frames r hs) i a (f .least) (f .most) (g .good) (g .top)
+abbrev pub BetweenAt : Rule → List ℕ → List ℕ → List ℕ → ℕ → At → ℕ → Range → Type 0
+BetweenAt r hs ls ms i f a g = Between (r .end) (frames r hs ls ms) i a (f .least) (f .most) (g .good) (g .top)
 
 -- b is the budget of frame f, which has a and comes before frame i
-abbrev pub CaughtAt : Rule → List ℕ → ℕ → At → ℕ → ℕ → Type 0
-CaughtAt r hs i f a b = Between (r .end) (frames r hs) i a (f .least) (f .most) b b
+abbrev pub CaughtAt : Rule → List ℕ → List ℕ → List ℕ → ℕ → At → ℕ → ℕ → Type 0
+CaughtAt r hs ls ms i f a b = Between (r .end) (frames r hs ls ms) i a (f .least) (f .most) b b

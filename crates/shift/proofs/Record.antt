@@ -2,24 +2,16 @@
 use mathlib.Core.Path.{_≡_, refl, sym, ap, _∙_}
 use mathlib.Core.Bool.{Bool, true, false, _&&_, not, false≢true}
 use mathlib.Core.List.{List, [], _∷_}
-use Prim.Native.Nat.{ℕ, suc, _+_, _-_, _*_, _≤_, _<_, _^_}
+use Prim.Native.Nat.{ℕ, suc, _+_, _-_, _*_, _≤_, _<_}
 use native.Mathlib.Numerals.{add-one}
 use native.Mathlib.Omega.{arith}
-use lib.Dec.{eqb, ltb, leb, T}
-use lib.IntN.{ℤ, pos, natAbs}
-use lib.Signed.{mag, nonNeg}
-use mir.Syntax.{w32, w64}
-use mir.Val.{Fits, toZ, ofZ}
+use lib.Dec.{eqb, ltb, leb}
 use borrow.Author.Tests.{leb-true, eqb-true, eqb-false, ltb-false, not-false, le-leb, eq-eqb, ne-eqb, lt-ltb, le-ltb}
 use Rattle.model.specs.declared.Refusal.{Refusal}
 use Rattle.model.specs.Choice.{pick}
 use Rattle.model.specs.Limits.{maxFrames, maxHarvest, maxCapacity}
 use Rattle.model.specs.Refusals.{refusal, none, isNone, firstOf}
 use Rattle.model.specs.Charge.{atHand, frameEnd}
-use Rattle.model.specs.Trace.{tracedEnd}
-use Rattle.model.specs.declared.frame.TracedEnd.{TracedEnd}
-use Rattle.model.proofs.Machine.{widen, back}
-use Rattle.model.proofs.Trace.{traced-within}
 use Rattle.model.proofs.Tests.{both}
 use Rattle.model.proofs.Choice.{pick-by}
 use Rattle.model.proofs.First.{first-none}
@@ -238,30 +230,6 @@ record-says s h u f t e d =
         isShift s ≡ true → (b : Bool) → isNone (recordRefusal s h u) ≡ b → isShift (pick b (recordedBy s h u) s) ≡ true
     stays i true n = is-sound (recordedBy s h u) (recorded-sound s h u (passed s h u n))
     stays i false n = i
-
--- a charge as the frame rule's code takes it
-pub charge-small : (x : ℕ) → x < 2 ^ 32 → mag (toZ w64 x) < 2 ^ 62
-charge-small x f = rw (widen x f) (omega arith)
-
--- what that code comes to where the use is at hand: the charge, which is a number of 32 bits, and the loss
-pub record Ended (c x h u : ℕ) (e : TracedEnd) : Type 0 where
-  pub charge-is : natAbs (toZ w64 (ofZ w64 (e .charge))) ≡ frameEnd c x h u .charge
-  pub charge-fits : T (nonNeg (toZ w64 (ofZ w64 (e .charge)))) × Fits w32 (natAbs (toZ w64 (ofZ w64 (e .charge))))
-  pub lost-is : e .lost ≡ frameEnd c x h u .lost
-
-pub ended :
-    (c x h u : ℕ) (e : TracedEnd) → c < 2 ^ 32 → x < 2 ^ 32 → u ≤ atHand c x h → e ≡ tracedEnd c (toZ w64 x) h u →
-    Ended c x h u e
-ended c x h u e fc fx l d =
-    let y = frameEnd c x h u .charge in
-    let p = d ∙ ap (λ (z : ℤ). tracedEnd c z h u) (widen x fx) ∙ traced-within c x h u l in
-    let z : toZ w64 (ofZ w64 (e .charge)) ≡ pos y =
-    ap (λ (r : TracedEnd). toZ w64 (ofZ w64 (r .charge))) p ∙ back (pos y) (omega arith) in
-    record {
-      charge-is = ap natAbs z;
-      charge-fits = rw z (tt, record { fits = omega arith });
-      lost-is = ap (λ (r : TracedEnd). r .lost) p;
-    }
 
 -- the shift that the code makes of the frame rule's two results
 pub recorded-as :

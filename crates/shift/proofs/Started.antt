@@ -1,6 +1,7 @@
--- Start's promise: what is handed over passes 22 and has a plan; with refusal 9 nothing is feasible.
+-- Start's promise: what is handed over passes 22 and has a plan; with refusal 9 or 11 nothing is feasible.
 use mathlib.Core.Path.{_≡_, ap, _∙_}
 use mathlib.Core.Bool.{true}
+use Prim.Native.Nat.{ℕ}
 use native.Mathlib.Omega.{arith}
 use Rattle.model.specs.declared.Refusal.{Refusal}
 use Rattle.model.specs.Choice.{pick}
@@ -8,8 +9,9 @@ use Rattle.model.specs.Request.{Request}
 use Rattle.model.specs.Refusals.{isNone, startRefusal}
 use Rattle.model.specs.Reward.{IsPlan}
 use Rattle.model.specs.Plan.{planOf}
-use Rattle.model.proofs.Request.{plan-is, out-of-reach}
-use Rattle.model.proofs.Refusals.{start-nine}
+use Rattle.model.proofs.Request.{plan-is}
+use Rattle.model.proofs.Reach.{none-feasible}
+use Rattle.model.proofs.Refusals.{start-unreachable}
 use Rattle.request.proofs.Within.{start-within}
 use Rattle.shift.specs.declared.Shift.{Shift}
 use Rattle.shift.specs.Shift.{started, noShift, isShift}
@@ -17,43 +19,43 @@ use Rattle.shift.specs.Says.{StartSays}
 use Rattle.shift.proofs.Record.{is-sound}
 
 -- the started shift passes 22
-pub started-is : (q : Request) → isNone (startRefusal q) ≡ true → isShift (started q) ≡ true
-started-is q e =
-    let w = start-within q e in
+pub started-is : (q : Request) (l m : ℕ) → isNone (startRefusal q l m) ≡ true → isShift (started q) ≡ true
+started-is q l m e =
+    let w = start-within q l m e in
     is-sound (started q)
     (record {
       terms =
           record {
-            some = w .frames .some;
-            few = w .frames .few;
-            capacity-low = w .figures .capacity-small;
-            start-low = w .figures .start-fits;
-            end-low = w .figures .end-fits;
+            some = w .lent .frames .some;
+            few = w .lent .frames .few;
+            capacity-low = w .served .figures .capacity-small;
+            start-low = w .served .figures .start-fits;
+            end-low = w .served .figures .end-fits;
           };
       now =
           record {
             within = omega arith;
-            charge-low = w .figures .start-fits;
+            charge-low = w .served .figures .start-fits;
             harvest-low = omega arith;
             balanced = omega arith;
           };
     })
 
 -- and its request has a plan
-pub started-plan : (q : Request) → isNone (startRefusal q) ≡ true → IsPlan q (planOf q)
-started-plan q e =
-    let w = start-within q e in
-    plan-is q (w .figures .start-fits) (w .figures .end-fits) (w .reach)
+pub started-plan : (q : Request) (l m : ℕ) → isNone (startRefusal q l m) ≡ true → IsPlan q (planOf q)
+started-plan q l m e =
+    let w = start-within q l m e in
+    plan-is q (w .served .figures .start-fits) (w .served .figures .end-fits) (w .served .reach)
 
 -- start's promise of any shift that is the one due
 pub start-says :
-    (q : Request) (f : Refusal) (s : Shift) → f ≡ startRefusal q → s ≡ pick (isNone f) (started q) noShift →
-    StartSays q (record { refusal = f; shift = s })
-start-says q f s e d =
+    (q : Request) (l m : ℕ) (f : Refusal) (s : Shift) → f ≡ startRefusal q l m →
+    s ≡ pick (isNone f) (started q) noShift → StartSays q l m (record { refusal = f; shift = s })
+start-says q l m f s e d =
     record {
       refusal = e;
       shift = d ∙ ap (λ (g : Refusal). pick (isNone g) (started q) noShift) e;
-      is-shift = started-is q;
-      reachable = started-plan q;
-      unreachable = λ n. out-of-reach q (start-nine q n);
+      is-shift = started-is q l m;
+      reachable = started-plan q l m;
+      unreachable = λ n. none-feasible q (start-unreachable q l m n);
     }

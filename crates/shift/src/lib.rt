@@ -2,7 +2,8 @@
 // crate rest, which also asks for refusals 22 and 20.
 ghost use mathlib.Core.Path.{_≡_};
 ghost use mathlib.Core.Bool.{true};
-ghost use Rattle.model.specs.Request.{request};
+ghost use lib.ListN.{length};
+ghost use Rattle.model.specs.Request.{boundedRequest};
 ghost use Rattle.model.specs.Refusals.{isNone};
 ghost use Rattle.shift.specs.Shift.{freshShift, recordRefusal, recordedBy};
 ghost use Rattle.shift.specs.Says.{StartSays, RecordSays};
@@ -83,10 +84,11 @@ fn fresh_shift(frames: u32, capacity: u32, start: u32, end: u32) -> Shift
 }
 
 // Starts a shift from a request. Beside a refusal the shift is all zeros.
-pub fn start(figures: Figures, harvest: &[u32]) -> ShiftAnswer
-    ensures { λ r. ⌜ StartSays (request figures (now (harvest .entry))) r ⌝ }
+pub fn start(figures: Figures, harvest: &[u32], least: &[u32], most: &[u32]) -> ShiftAnswer
+    ensures { λ r. ⌜ StartSays (boundedRequest figures (now (harvest .entry)) (now (least .entry))
+        (now (most .entry))) (length (now (least .entry))) (length (now (most .entry))) r ⌝ }
 {
-    let refusal = request::start_refusal(figures, harvest);
+    let refusal = request::start_refusal(figures, harvest, least, most);
     if !is_none(refusal) {
         let none = fresh_shift(0, 0, 0, 0);
         return ShiftAnswer {

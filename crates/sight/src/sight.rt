@@ -10,7 +10,7 @@
 use super::slope::Slope;
 use super::slope::steeper;
 use certifier::Rule;
-use certifier::frame_at;
+use certifier::inflow_at;
 use numbers::TOP;
 use numbers::fill;
 use numbers::less;
@@ -22,7 +22,6 @@ use numbers::within;
 use std::num::wrapping_add_usize;
 ghost use mathlib.Core.Path.{_≡_};
 ghost use lib.ListN.{length};
-ghost use Rattle.certifier.specs.Says.{Small};
 
 // How many more frames may be looked at for each frame drawn, and what a turn costs in frames: what was fastest over
 // the benchmark's families.
@@ -176,9 +175,7 @@ fn no_turn() -> Turn {
 }
 
 // The turn after the apex, if it is found among so many frames.
-fn next_turn(rule: Rule, harvest: &[u32], apex: Apex, left: u64) -> Turn
-    requires { ⌜ Small rule ⌝ }
-{
+fn next_turn(rule: Rule, harvest: &[u32], apex: Apex, left: u64) -> Turn {
     let capacity = rule.capacity;
     let last = within(wrapping_add_usize(apex.frame, left as usize), harvest.len());
     let mut high = upright(capacity, apex);
@@ -187,14 +184,14 @@ fn next_turn(rule: Rule, harvest: &[u32], apex: Apex, left: u64) -> Turn
     let mut run = 0;
     let mut k = apex.frame;
     while k < last {
-        let f = frame_at(rule, harvest, k);
-        height = plus(height, f.inflow);
+        let inflow = inflow_at(harvest, k);
+        height = plus(height, inflow);
         run = plus(run, 1);
-        high = flattest(capacity, high, f.inflow, minus(height, apex.above), run);
+        high = flattest(capacity, high, inflow, minus(height, apex.above), run);
         if high.most < high.off {
             return upper_turn(high, run);
         }
-        low = steepest(capacity, low, f.inflow, minus(height, apex.below), run);
+        low = steepest(capacity, low, inflow, minus(height, apex.below), run);
         if low.most < low.off {
             return lower_turn(low, run);
         }
@@ -234,7 +231,6 @@ fn moved(capacity: u64, apex: Apex, turn: Turn) -> Apex {
 
 // Draws the string from turn to turn, to its end or until the allowance is used up. Gives the apex that was reached.
 pub fn draw_by_sight(rule: Rule, harvest: &[u32], first: Apex, levels: &mut [u32]) -> Apex
-    requires { ⌜ Small rule ⌝ }
     ensures { λ _. ⌜ length (now (levels .exit)) ≡ length (now (levels .entry)) ⌝ }
 {
     let count = harvest.len();

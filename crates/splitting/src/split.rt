@@ -31,7 +31,7 @@ use numbers::plus;
 use numbers::put;
 ghost use mathlib.Core.Path.{_≡_};
 ghost use lib.ListN.{length};
-ghost use Rattle.certifier.specs.Says.{Small};
+ghost use Rattle.certifier.specs.Says.{Readable};
 
 // The guess ends after so many steps, settled or not.
 const TURNS: u64 = 1000000;
@@ -94,32 +94,42 @@ fn part(block: Block, level: u64, lows: &mut [u32], highs: &mut [u32], marks: &[
 }
 
 // The reserve behind the first part of a block, which ends before frame `cut`.
-fn part_end(rule: Rule, harvest: &[u32], block: Block, lows: &[u32], cut: usize) -> u64
-    requires { ⌜ Small rule ⌝ }
+fn part_end(
+    rule: Rule,
+    harvest: &[u32],
+    least: &[u32],
+    most: &[u32],
+    block: Block,
+    lows: &[u32],
+    cut: usize,
+) -> u64
+    requires { ⌜ Readable rule (now harvest) (now least) (now most) ⌝ }
 {
     if block.to <= cut {
         return block.end;
     }
-    end_of(rule, harvest, lows, cut, at(lows, block.from))
+    end_of(rule, harvest, least, most, lows, cut, at(lows, block.from))
 }
 
 // The first part of a block that was parted before frame `cut`, and what its first frame needed.
 fn first_part(
     rule: Rule,
     harvest: &[u32],
+    least: &[u32],
+    most: &[u32],
     block: Block,
     needs: Needs,
     lows: &[u32],
     highs: &[u32],
     cut: usize,
 ) -> Block
-    requires { ⌜ Small rule ⌝ }
+    requires { ⌜ Readable rule (now harvest) (now least) (now most) ⌝ }
 {
     let mut first = block;
     first.to = cut;
     first.low = at(lows, block.from);
     first.high = at(highs, block.from);
-    first.end = part_end(rule, harvest, block, lows, cut);
+    first.end = part_end(rule, harvest, least, most, block, lows, cut);
     first.tries = plus(block.tries, 1);
     first.last = needs;
     first
@@ -129,26 +139,36 @@ fn first_part(
 fn divide(
     rule: Rule,
     harvest: &[u32],
+    least: &[u32],
+    most: &[u32],
     block: Block,
     lows: &mut [u32],
     highs: &mut [u32],
     marks: &mut [u32],
 ) -> Block
-    requires { ⌜ Small rule ⌝ }
+    requires { ⌜ Readable rule (now harvest) (now least) (now most) ⌝ }
     ensures { λ _. ⌜ (length (now (lows .exit)) ≡ length (now (lows .entry))) ×
         (length (now (highs .exit)) ≡ length (now (highs .entry))) ×
         (length (now (marks .exit)) ≡ length (now (marks .entry))) ⌝ }
 {
-    let level = level_to_try(rule, harvest, block);
-    let needs = weigh_block(rule, harvest, block, level, marks);
+    let level = level_to_try(rule, harvest, least, most, block);
+    let needs = weigh_block(rule, harvest, least, most, block, level, marks);
     let cut = part(block, level, lows, highs, marks);
     fill(marks, block.from, block.to, plus(block.tries, 1));
-    first_part(rule, harvest, block, needs, lows, highs, cut)
+    first_part(rule, harvest, least, most, block, needs, lows, highs, cut)
 }
 
 // Gives a block of one frame its level.
-fn settle(rule: Rule, harvest: &[u32], block: Block, lows: &mut [u32], highs: &mut [u32]) -> Block
-    requires { ⌜ Small rule ⌝ }
+fn settle(
+    rule: Rule,
+    harvest: &[u32],
+    least: &[u32],
+    most: &[u32],
+    block: Block,
+    lows: &mut [u32],
+    highs: &mut [u32],
+) -> Block
+    requires { ⌜ Readable rule (now harvest) (now least) (now most) ⌝ }
     ensures { λ _. ⌜ (length (now (lows .exit)) ≡ length (now (lows .entry))) ×
         (length (now (highs .exit)) ≡ length (now (highs .entry))) ⌝ }
 {
@@ -156,7 +176,7 @@ fn settle(rule: Rule, harvest: &[u32], block: Block, lows: &mut [u32], highs: &m
     if harvest.len() <= k {
         return block;
     }
-    let level = lone(frame_at(rule, harvest, k), block);
+    let level = lone(frame_at(rule, harvest, least, most, k), block);
     put(lows, k, level);
     put(highs, k, level);
     let mut settled = block;
@@ -169,13 +189,15 @@ fn settle(rule: Rule, harvest: &[u32], block: Block, lows: &mut [u32], highs: &m
 fn step(
     rule: Rule,
     harvest: &[u32],
+    least: &[u32],
+    most: &[u32],
     start: u64,
     block: Block,
     lows: &mut [u32],
     highs: &mut [u32],
     marks: &mut [u32],
 ) -> Block
-    requires { ⌜ Small rule ⌝ }
+    requires { ⌜ Readable rule (now harvest) (now least) (now most) ⌝ }
     ensures { λ _. ⌜ (length (now (lows .exit)) ≡ length (now (lows .entry))) ×
         (length (now (highs .exit)) ≡ length (now (highs .entry))) ×
         (length (now (marks .exit)) ≡ length (now (marks .entry))) ⌝ }
@@ -183,14 +205,14 @@ fn step(
     let next = block.to;
     if block.low < block.high {
         if less(next as u64, block.from as u64) <= 1 {
-            return settle(rule, harvest, block, lows, highs);
+            return settle(rule, harvest, least, most, block, lows, highs);
         }
-        return divide(rule, harvest, block, lows, highs, marks);
+        return divide(rule, harvest, least, most, block, lows, highs, marks);
     }
     if harvest.len() <= next {
         return block;
     }
-    block_at(rule, harvest, start, next, lows, highs, marks)
+    block_at(rule, harvest, least, most, start, next, lows, highs, marks)
 }
 
 // Gives every frame the levels up to a roof.
@@ -205,19 +227,19 @@ fn unbound(lows: &mut [u32], highs: &mut [u32], marks: &mut [u32], count: usize,
 }
 
 // A level above everything that a frame can draw.
-fn roof_of(rule: Rule, harvest: &[u32], start: u64) -> u64
-    requires { ⌜ Small rule ⌝ }
+fn roof_of(rule: Rule, harvest: &[u32], least: &[u32], most: &[u32], start: u64) -> u64
+    requires { ⌜ Readable rule (now harvest) (now least) (now most) ⌝ }
 {
     let mut have = start;
-    let mut most = 0;
+    let mut top = 0;
     let mut k = 0;
     while k < harvest.len() {
-        let f = frame_at(rule, harvest, k);
+        let f = frame_at(rule, harvest, least, most, k);
         have = plus(have, f.inflow);
-        most = greater(most, f.most);
+        top = greater(top, f.most);
         k += 1;
     }
-    lesser(TOP, plus(lesser(have, most), 1))
+    lesser(TOP, plus(lesser(have, top), 1))
 }
 
 // A level, but the top for one at the roof: a frame that draws its most there refuses nothing more.
@@ -240,13 +262,15 @@ fn lift(roof: u64, levels: &mut [u32])
 fn settle_all(
     rule: Rule,
     harvest: &[u32],
+    least: &[u32],
+    most: &[u32],
     start: u64,
     first: Block,
     lows: &mut [u32],
     highs: &mut [u32],
     marks: &mut [u32],
 )
-    requires { ⌜ Small rule ⌝ }
+    requires { ⌜ Readable rule (now harvest) (now least) (now most) ⌝ }
     ensures { λ _. ⌜ (length (now (lows .exit)) ≡ length (now (lows .entry))) ×
         (length (now (highs .exit)) ≡ length (now (highs .entry))) ×
         (length (now (marks .exit)) ≡ length (now (marks .entry))) ⌝ }
@@ -257,7 +281,7 @@ fn settle_all(
         if done(block, harvest.len()) {
             return;
         }
-        block = step(rule, harvest, start, block, lows, highs, marks);
+        block = step(rule, harvest, least, most, start, block, lows, highs, marks);
         turns -= 1;
     }
 }
@@ -266,12 +290,14 @@ fn settle_all(
 pub fn split_levels(
     rule: Rule,
     harvest: &[u32],
+    least: &[u32],
+    most: &[u32],
     start: u64,
     levels: &mut [u32],
     highs: &mut [u32],
     marks: &mut [u32],
 )
-    requires { ⌜ Small rule ⌝ }
+    requires { ⌜ Readable rule (now harvest) (now least) (now most) ⌝ }
     ensures { λ _. ⌜ (length (now (levels .exit)) ≡ length (now (levels .entry))) ×
         (length (now (highs .exit)) ≡ length (now (highs .entry))) ×
         (length (now (marks .exit)) ≡ length (now (marks .entry))) ⌝ }
@@ -280,9 +306,19 @@ pub fn split_levels(
     if count == 0 {
         return;
     }
-    let roof = roof_of(rule, harvest, start);
+    let roof = roof_of(rule, harvest, least, most, start);
     unbound(levels, highs, marks, count, roof);
-    let first = block_at(rule, harvest, start, 0, levels, highs, marks);
-    settle_all(rule, harvest, start, first, levels, highs, marks);
+    let first = block_at(rule, harvest, least, most, start, 0, levels, highs, marks);
+    settle_all(
+        rule,
+        harvest,
+        least,
+        most,
+        start,
+        first,
+        levels,
+        highs,
+        marks,
+    );
     lift(roof, levels);
 }

@@ -14,7 +14,7 @@ use super::chain::point_of;
 use super::chain::stand;
 use super::chain::way;
 use certifier::Rule;
-use certifier::frame_at;
+use certifier::inflow_at;
 use numbers::less;
 use numbers::plus;
 use numbers::put;
@@ -23,7 +23,6 @@ use sight::steeper;
 use std::num::wrapping_add_usize;
 ghost use mathlib.Core.Path.{_≡_};
 ghost use lib.ListN.{length};
-ghost use Rattle.certifier.specs.Says.{Small};
 
 // The string as far as it is sure, and the parts of the two lists that are the chains behind it: the frames before
 // the apex have their levels; `above` and `below` are the apex's height as the upper curve counts, and as the lower
@@ -232,7 +231,6 @@ pub fn draw_by_funnel(
     upper: &mut [u32],
     lower: &mut [u32],
 )
-    requires { ⌜ Small rule ⌝ }
     ensures { λ _. ⌜ (length (now (levels .exit)) ≡ length (now (levels .entry))) ×
         (length (now (upper .exit)) ≡ length (now (upper .entry))) ×
         (length (now (lower .exit)) ≡ length (now (lower .entry))) ⌝ }
@@ -242,28 +240,18 @@ pub fn draw_by_funnel(
     if count <= apex.frame {
         return;
     }
-    let first = frame_at(rule, harvest, apex.frame);
     let mut funnel = unrolled(apex);
-    let mut inflow = first.inflow;
+    let mut inflow = inflow_at(harvest, apex.frame);
     let mut k = apex.frame + 1;
     let mut point = Point {
         frame: k,
         height: plus(apex.height, inflow),
     };
     while k < count {
-        let f = frame_at(rule, harvest, k);
+        let next = inflow_at(harvest, k);
         put(levels, k, point.height);
-        funnel = pass(
-            levels,
-            upper,
-            lower,
-            capacity,
-            funnel,
-            point,
-            inflow,
-            f.inflow,
-        );
-        inflow = f.inflow;
+        funnel = pass(levels, upper, lower, capacity, funnel, point, inflow, next);
+        inflow = next;
         k += 1;
         point.frame = k;
         point.height = plus(point.height, inflow);

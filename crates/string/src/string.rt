@@ -6,23 +6,20 @@
 // funnel.
 use super::funnel::draw_by_funnel;
 use certifier::Rule;
-use certifier::frame_at;
+use certifier::inflow_at;
 use numbers::put;
 use sight::draw_by_sight;
 use sight::first_apex;
 ghost use mathlib.Core.Path.{_≡_};
 ghost use lib.ListN.{length};
-ghost use Rattle.certifier.specs.Says.{Small};
 
 // Without capacity the two curves are one, and the string is that curve: what comes in is drawn.
-fn inflows(rule: Rule, harvest: &[u32], levels: &mut [u32])
-    requires { ⌜ Small rule ⌝ }
+fn inflows(harvest: &[u32], levels: &mut [u32])
     ensures { λ _. ⌜ length (now (levels .exit)) ≡ length (now (levels .entry)) ⌝ }
 {
     let mut k = 0;
     while k < harvest.len() {
-        let f = frame_at(rule, harvest, k);
-        put(levels, k, f.inflow);
+        put(levels, k, inflow_at(harvest, k));
         k += 1;
     }
 }
@@ -36,13 +33,12 @@ pub fn string_levels(
     upper: &mut [u32],
     lower: &mut [u32],
 )
-    requires { ⌜ Small rule ⌝ }
     ensures { λ _. ⌜ (length (now (levels .exit)) ≡ length (now (levels .entry))) ×
         (length (now (upper .exit)) ≡ length (now (upper .entry))) ×
         (length (now (lower .exit)) ≡ length (now (lower .entry))) ⌝ }
 {
     if rule.capacity == 0 {
-        inflows(rule, harvest, levels);
+        inflows(harvest, levels);
         return;
     }
     let apex = draw_by_sight(rule, harvest, first_apex(rule.capacity, start), levels);

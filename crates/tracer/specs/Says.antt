@@ -37,9 +37,10 @@ pub record TraceSays (q : Request) (bs : List ℕ) (xs ys : List ℤ) (ls ms : L
   pub answer : said r ≡ outcome (traceRefusal q (length bs) (length xs) (length ls)) (verdict q bs)
   pub charges : ys ≡ pick (isNone (traceRefusal q (length bs) (length xs) (length ls))) (trace q bs) xs
   pub losses : ms ≡ pick (isNone (traceRefusal q (length bs) (length xs) (length ls))) (traceLosses q bs) ls
-  -- "feasible" is Definition 1, and then the charges and losses written are those of the frame rule
+  -- "feasible" is Definition 1, whatever the bounds, and then the charges and losses written are those of the frame
+  -- rule
   pub feasible : isNone (traceRefusal q (length bs) (length xs) (length ls)) ≡ true →
-      (r ≡ Feasible) ↔ (C.feasible q bs ≡ true)
+      (r ≡ Feasible) ↔ (C.drawable q bs ≡ true)
   pub feasible-charges : r ≡ Feasible → ys ≡ map pos (C.charges q bs)
   pub feasible-losses : r ≡ Feasible → ms ≡ C.losses q bs
   -- whatever the budgets, charges and losses account for every unit

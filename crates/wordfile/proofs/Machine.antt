@@ -4,41 +4,61 @@ use mathlib.Core.Bool.{Bool, true, false}
 use mathlib.Core.List.{List, [], _∷_}
 use Prim.Native.Nat.{ℕ, suc, _+_, _≤_, _<_}
 use native.Mathlib.Omega.{arith}
+use native.Mathlib.Decide.{decLt}
 use lib.Dec.{eqb, ltb}
-use borrow.Author.Tests.{lt-ltb, le-ltb, eq-eqb, ne-eqb, ltb-true, ltb-false, eqb-true}
+use borrow.Author.Tests.{lt-ltb, le-ltb, eq-eqb, ne-eqb, ltb-true, ltb-false, eqb-true, eqb-false}
 use lib.ListN.{length, getD, drop, drop-of-length-le}
 use lib.Seq.{drop-cons}
 use Rattle.model.specs.Choice.{pick}
-use Rattle.words.specs.Words.{kindOf, valueIn}
-use Rattle.wordfile.specs.Form.{state, stepOf, scan, placeIn}
+use Rattle.words.specs.Words.{kindOf, valueIn, markOf}
+use Rattle.wordfile.specs.Form.{state, boundStep, stepOf, scan, placeIn}
 use Rattle.wordfile.specs.declared.form.State.{State}
 use Rattle.wordfile.specs.declared.form.Step.{Step}
 use Rattle.wordfile.specs.declared.form.Step.the-variants.{On, End, Wrong}
 use Rattle.wordfile.specs.declared.form.Form.{Form}
 use Rattle.wordfile.specs.declared.form.Form.the-variants.{Closed, Broken}
 
+-- what a bound does, by the test that the code makes of its mark m
+module _ (s : State) (w : ℕ) {m : ℕ} (mark : m ≡ markOf w) where
+  pub bound-late : m < s .mark → Wrong ≡ boundStep s w
+  bound-late l = rw (lt-ltb (markOf w) (s .mark) (omega arith))
+
+  pub bound-next : s .mark ≤ m → On (state (s .figures) (s .frames) (m + 1)) ≡ boundStep s w
+  bound-next l = rw (mark, le-ltb (markOf w) (s .mark) (omega arith))
+
 -- what a word does, by the tests that the code makes of its kind k and its value v
 module _ (s : State) (w : ℕ) {k : ℕ} (kind : k ≡ kindOf w) where
-  pub is-figure : s .figures < 3 → k ≡ 0 → On (state (s .figures + 1) (s .frames)) ≡ stepOf s w
+  pub is-figure : s .figures < 3 → k ≡ 0 → On (state (s .figures + 1) (s .frames) (s .mark)) ≡ stepOf s w
   is-figure l e = rw (lt-ltb (s .figures) 3 l, eq-eqb (kindOf w) 0 (sym kind ∙ e))
 
   pub no-figure : s .figures < 3 → (k ≡ 0 → ⊥) → Wrong ≡ stepOf s w
   no-figure l e = rw (lt-ltb (s .figures) 3 l, ne-eqb (kindOf w) 0 (λ z. e (kind ∙ z)))
 
   module _ (l : 3 ≤ s .figures) where
-    pub is-harvest : k ≡ 1 → On (state (s .figures) (s .frames + 1)) ≡ stepOf s w
+    pub is-harvest : k ≡ 1 → On (state (s .figures) (s .frames + 1) 4) ≡ stepOf s w
     is-harvest e = rw (le-ltb (s .figures) 3 l, eq-eqb (kindOf w) 1 (sym kind ∙ e))
 
-    pub other-kind : (k ≡ 1 → ⊥) → (k ≡ 3 → ⊥) → Wrong ≡ stepOf s w
-    other-kind a b =
-        rw (le-ltb (s .figures) 3 l, ne-eqb (kindOf w) 1 (λ z. a (kind ∙ z)), ne-eqb (kindOf w) 3 (λ z. b (kind ∙ z)))
+    pub is-bound : k ≡ 2 → boundStep s w ≡ stepOf s w
+    is-bound e =
+        let n = ne-eqb (kindOf w) 1 (λ (z : kindOf w ≡ 1). omega arith) in
+        rw (le-ltb (s .figures) 3 l, n, eq-eqb (kindOf w) 2 (sym kind ∙ e))
+
+    pub other-kind : (k ≡ 1 → ⊥) → (k ≡ 2 → ⊥) → (k ≡ 3 → ⊥) → Wrong ≡ stepOf s w
+    other-kind a b c =
+        rw (
+          le-ltb (s .figures) 3 l,
+          ne-eqb (kindOf w) 1 (λ z. a (kind ∙ z)),
+          ne-eqb (kindOf w) 2 (λ z. b (kind ∙ z)),
+          ne-eqb (kindOf w) 3 (λ z. c (kind ∙ z)),
+        )
 
     -- a word of kind 3
     module _ (e : k ≡ 3) {v : ℕ} (value : v ≡ valueIn w) where
       three : (t : Bool) → eqb (valueIn w) (s .frames) ≡ t → pick t End Wrong ≡ stepOf s w
       three t q =
           let n = ne-eqb (kindOf w) 1 (λ (z : kindOf w ≡ 1). omega arith) in
-          rw (le-ltb (s .figures) 3 l, n, eq-eqb (kindOf w) 3 (sym kind ∙ e), q)
+          let o = ne-eqb (kindOf w) 2 (λ (z : kindOf w ≡ 2). omega arith) in
+          rw (le-ltb (s .figures) 3 l, n, o, eq-eqb (kindOf w) 3 (sym kind ∙ e), q)
 
       pub is-end : v ≡ s .frames → End ≡ stepOf s w
       is-end m = three true (eq-eqb (valueIn w) (s .frames) (sym value ∙ m))
@@ -48,26 +68,47 @@ module _ (s : State) (w : ℕ) {k : ℕ} (kind : k ≡ kindOf w) where
 
 -- what a word did, with the facts of each case
 pub data Did (s : State) (w : ℕ) : Type 0 where
-  figure : s .figures < 3 → kindOf w ≡ 0 → On (state (s .figures + 1) (s .frames)) ≡ stepOf s w → Did s w
-  harvest : 3 ≤ s .figures → kindOf w ≡ 1 → On (state (s .figures) (s .frames + 1)) ≡ stepOf s w → Did s w
+  figure : s .figures < 3 → kindOf w ≡ 0 → On (state (s .figures + 1) (s .frames) (s .mark)) ≡ stepOf s w → Did s w
+  harvest : 3 ≤ s .figures → kindOf w ≡ 1 → On (state (s .figures) (s .frames + 1) 4) ≡ stepOf s w → Did s w
+  bound :
+      3 ≤ s .figures → kindOf w ≡ 2 → s .mark ≤ markOf w → On (state (s .figures) (s .frames) (markOf w + 1)) ≡ stepOf s w →
+      Did s w
   ended : 3 ≤ s .figures → kindOf w ≡ 3 → valueIn w ≡ s .frames → End ≡ stepOf s w → Did s w
   broke : Wrong ≡ stepOf s w → Did s w
 
-pub did : (s : State) (w : ℕ) → Did s w
-did s w =
-    go (ltb (s .figures) 3) refl (eqb (kindOf w) 0) refl (eqb (kindOf w) 1) refl (eqb (kindOf w) 3) refl
-    (eqb (valueIn w) (s .frames)) refl
-  where
-    go : (t : Bool) → ltb (s .figures) 3 ≡ t → (a : Bool) → eqb (kindOf w) 0 ≡ a → (b : Bool) → eqb (kindOf w) 1 ≡ b →
-        (c : Bool) → eqb (kindOf w) 3 ≡ c → (d : Bool) → eqb (valueIn w) (s .frames) ≡ d → Did s w
-    go true p true q b x c y d z = figure (ltb-true (s .figures) 3 p) (eqb-true (kindOf w) 0 q) (rw (p, q))
-    go true p false q b x c y d z = broke (rw (p, q))
-    go false p a q true x c y d z = harvest (ltb-false (s .figures) 3 p) (eqb-true (kindOf w) 1 x) (rw (p, x))
-    go false p a q false x true y true z =
-        ended (ltb-false (s .figures) 3 p) (eqb-true (kindOf w) 3 y) (eqb-true (valueIn w) (s .frames) z)
-        (rw (p, x, y, z))
-    go false p a q false x true y false z = broke (rw (p, x, y, z))
-    go false p a q false x false y d z = broke (rw (p, x, y))
+module _ (s : State) (w : ℕ) where
+  did-first : s .figures < 3 → (a : Bool) → eqb (kindOf w) 0 ≡ a → Did s w
+  did-first l true q = let z = eqb-true (kindOf w) 0 q in figure l z (is-figure s w refl l z)
+  did-first l false q = broke (no-figure s w refl l (eqb-false (kindOf w) 0 q))
+
+  module _ (l : 3 ≤ s .figures) where
+    did-bound : kindOf w ≡ 2 → (t : Bool) → ltb (markOf w) (s .mark) ≡ t → Did s w
+    did-bound z true q = broke (bound-late s w refl (ltb-true (markOf w) (s .mark) q) ∙ is-bound s w refl l z)
+    did-bound z false q =
+        let m = ltb-false (markOf w) (s .mark) q in
+        bound l z m (bound-next s w refl m ∙ is-bound s w refl l z)
+
+    did-end : kindOf w ≡ 3 → (t : Bool) → eqb (valueIn w) (s .frames) ≡ t → Did s w
+    did-end z true q =
+        let v = eqb-true (valueIn w) (s .frames) q in
+        ended l z v (is-end s w refl l z refl v)
+    did-end z false q = broke (no-end s w refl l z refl (eqb-false (valueIn w) (s .frames) q))
+
+    did-later :
+        (a : Bool) → eqb (kindOf w) 1 ≡ a → (b : Bool) → eqb (kindOf w) 2 ≡ b → (c : Bool) → eqb (kindOf w) 3 ≡ c →
+        Did s w
+    did-later true x b y c z = let k = eqb-true (kindOf w) 1 x in harvest l k (is-harvest s w refl l k)
+    did-later false x true y c z = did-bound (eqb-true (kindOf w) 2 y) (ltb (markOf w) (s .mark)) refl
+    did-later false x false y true z = did-end (eqb-true (kindOf w) 3 z) (eqb (valueIn w) (s .frames)) refl
+    did-later false x false y false z =
+        broke (other-kind s w refl l (eqb-false (kindOf w) 1 x) (eqb-false (kindOf w) 2 y) (eqb-false (kindOf w) 3 z))
+
+  pub did : Did s w
+  did =
+      elim (decLt (s .figures) 3) [
+        | yes l ↦ did-first l (eqb (kindOf w) 0) refl
+        | no l ↦ did-later (omega arith) (eqb (kindOf w) 1) refl (eqb (kindOf w) 2) refl (eqb (kindOf w) 3) refl
+      ]
 
 -- a word adds at most one frame
 pub frames-grow : (s t : State) (w : ℕ) → On t ≡ stepOf s w → t .frames ≤ s .frames + 1
@@ -76,12 +117,13 @@ frames-grow s t w e = go (did s w)
     clash : {A : Type 0} → _≡_ {A = ℕ} 0 1 → A
     clash z = let b : ⊥ = omega arith in absurd b
 
-    next : (f k : ℕ) → On (state f k) ≡ stepOf s w → k ≡ t .frames
-    next f k q = let z : state f k ≡ t = cc in ap (λ (x : State). x .frames) z
+    next : (f k m : ℕ) → On (state f k m) ≡ stepOf s w → k ≡ t .frames
+    next f k m q = let z : state f k m ≡ t = cc in ap (λ (x : State). x .frames) z
 
     go : Did s w → t .frames ≤ s .frames + 1
-    go (figure l k q) = omega (arith, next (s .figures + 1) (s .frames) q)
-    go (harvest l k q) = omega (arith, next (s .figures) (s .frames + 1) q)
+    go (figure l k q) = omega (arith, next (s .figures + 1) (s .frames) (s .mark) q)
+    go (harvest l k q) = omega (arith, next (s .figures) (s .frames + 1) 4 q)
+    go (bound l k m q) = omega (arith, next (s .figures) (s .frames) (markOf w + 1) q)
     go (ended l k v q) = clash cc
     go (broke q) = clash cc
 

@@ -2,8 +2,9 @@
 ghost use mathlib.Core.Path.{_≡_};
 ghost use Prim.Native.Nat.{_<_, _^_};
 ghost use Rattle.words.specs.Words.{wordsOf};
-ghost use Rattle.wordfile.specs.Form.{stepOf, formOf};
+ghost use Rattle.wordfile.specs.Form.{boundStep, stepOf, formOf};
 use words::kind;
+use words::mark;
 use words::nth;
 use words::value;
 
@@ -12,15 +13,25 @@ pub const FIGURE: u32 = 0;
 
 pub const HARVEST: u32 = 1;
 
+const BOUND: u32 = 2;
+
 pub const END: u32 = 3;
+
+// The marks of bounds: a least, a most; and a mark above both.
+pub const LEAST: u32 = 4;
+
+pub const MOST: u32 = 5;
+
+const NO_MARK: u32 = 6;
 
 // How many figures come first: capacity, start, end.
 pub const FIGURE_COUNT: usize = 3;
 
-// The words so far: how many figures, and how many frames.
+// The words so far: how many figures, and how many frames; and the lowest mark of a bound that may follow.
 pub struct State {
     pub figures: usize,
     pub frames: usize,
+    pub mark: u32,
 }
 
 // What a word does to the machine: it goes on, it ends, or the word breaks the form.
@@ -36,6 +47,21 @@ pub enum Form {
     Broken(usize),
 }
 
+// What a bound does to the machine.
+fn bound_by(state: State, word: u32) -> Step
+    ensures { λ r. ⌜ r ≡ boundStep state word ⌝ }
+{
+    let m = mark(word);
+    if m < state.mark {
+        return Step::Wrong;
+    }
+    Step::On(State {
+        figures: state.figures,
+        frames: state.frames,
+        mark: m + 1,
+    })
+}
+
 // What a word does to the machine.
 pub fn step_by(state: State, word: u32) -> Step
     requires { ⌜ state .frames < 2 ^ 63 ⌝ }
@@ -47,6 +73,7 @@ pub fn step_by(state: State, word: u32) -> Step
             return Step::On(State {
                 figures: state.figures + 1,
                 frames: state.frames,
+                mark: state.mark,
             });
         }
         return Step::Wrong;
@@ -55,7 +82,11 @@ pub fn step_by(state: State, word: u32) -> Step
         return Step::On(State {
             figures: state.figures,
             frames: state.frames + 1,
+            mark: LEAST,
         });
+    }
+    if k == BOUND {
+        return bound_by(state, word);
     }
     if k == END {
         if value(word) as usize == state.frames {
@@ -73,6 +104,7 @@ pub fn scan(file: &[u8]) -> Form
     let mut state = State {
         figures: 0,
         frames: 0,
+        mark: NO_MARK,
     };
     let mut i: usize = 0;
     while i < n {

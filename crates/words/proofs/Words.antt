@@ -7,7 +7,7 @@ use lib.Bits.{bitAnd, bitOr, and-mask, or-shifted, or-shifted-r}
 use lib.ListN.{length, set, take, drop}
 use lib.Seq.{sets-eq}
 use Rattle.model.specs.Lent.{overAt}
-use Rattle.words.specs.Words.{kindOf, valueIn, wordOf, wordBytes, fourBytes}
+use Rattle.words.specs.Words.{kindOf, valueIn, wordOf, markOf, amountIn, boundWord, wordBytes, fourBytes}
 
 -- a word has the kind and the value that it is made of
 pub word-kind : (k v : ℕ) → v < 2 ^ 30 → kindOf (wordOf k v) ≡ k
@@ -16,11 +16,24 @@ word-kind k v l = omega arith
 pub word-value : (k v : ℕ) → v < 2 ^ 30 → valueIn (wordOf k v) ≡ v
 word-value k v l = omega arith
 
+-- a bound's word has the mark and the amount that it is made of
+pub bound-mark : (m a : ℕ) → a < 2 ^ 29 → markOf (boundWord m a) ≡ m
+bound-mark m a l = omega arith
+
+pub bound-amount : (m a : ℕ) → a < 2 ^ 29 → amountIn (boundWord m a) ≡ a
+bound-amount m a l = omega arith
+
 -- a kind shifted up, or a value
 pub build-is : (k v : ℕ) → k < 4 → v < 2 ^ 30 → bitOr (k * 2 ^ 30 % 2 ^ 32) v ≡ wordOf k v
 build-is k v hk hv =
     let e : k * 2 ^ 30 % 2 ^ 32 ≡ k * 2 ^ 30 = omega arith in
     ap (λ (n : ℕ). bitOr n v) e ∙ or-shifted k 30 v hv
+
+-- a mark shifted up, or an amount
+pub bound-is : (m a : ℕ) → m < 8 → a < 2 ^ 29 → bitOr (m * 2 ^ 29 % 2 ^ 32) a ≡ boundWord m a
+bound-is m a hm ha =
+    let e : m * 2 ^ 29 % 2 ^ 32 ≡ m * 2 ^ 29 = omega arith in
+    ap (λ (n : ℕ). bitOr n a) e ∙ or-shifted m 29 a ha
 
 -- four bytes, each shifted to its place
 pub join-is :

@@ -1,4 +1,5 @@
--- Words of 32 bits: the kind in the top two bits, the value in the low 30; four bytes each, the lowest first.
+-- Words of 32 bits: the kind in the top two bits, the value in the low 30; a bound's mark in the top three, its amount
+-- in the low 29. Four bytes each, the lowest first.
 use mathlib.Core.List.{List, [], _∷_, _++_}
 use Prim.Native.Nat.{ℕ, zero, suc, _+_, _*_, _/_, _%_, _^_}
 use lib.ListN.{length, getD, drop}
@@ -14,6 +15,16 @@ valueIn w = w % 2 ^ 30
 -- the word of a kind and a value
 abbrev pub wordOf : ℕ → ℕ → ℕ
 wordOf k v = k * 2 ^ 30 + v
+
+-- the top three bits, the low 29, and the word of a mark and an amount
+abbrev pub markOf : ℕ → ℕ
+markOf w = w / 2 ^ 29
+
+abbrev pub amountIn : ℕ → ℕ
+amountIn w = w % 2 ^ 29
+
+abbrev pub boundWord : ℕ → ℕ → ℕ
+boundWord m a = m * 2 ^ 29 + a
 
 -- the four bytes of a word
 abbrev pub wordBytes : ℕ → List ℕ

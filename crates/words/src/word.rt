@@ -4,7 +4,8 @@ ghost use mathlib.Core.List.{[], _∷_};
 ghost use Prim.Native.Nat.{_+_, _/_, _<_, _≤_, _^_};
 ghost use lib.ListN.{length, getD};
 ghost use Rattle.model.specs.Lent.{overAt};
-ghost use Rattle.words.specs.Words.{kindOf, valueIn, wordOf, wordBytes, fourBytes, wordsOf};
+ghost use Rattle.words.specs.Words.{kindOf, valueIn, wordOf, markOf, amountIn, boundWord};
+ghost use Rattle.words.specs.Words.{wordBytes, fourBytes, wordsOf};
 ghost use Rattle.words.specs.Puts.{Puts};
 
 // The top two bits of a word.
@@ -21,6 +22,20 @@ pub fn value(word: u32) -> u32
     word & 0x3fffffff
 }
 
+// The top three bits of a word.
+pub fn mark(word: u32) -> u32
+    ensures { λ r. ⌜ r ≡ markOf word ⌝ }
+{
+    word >> 29
+}
+
+// The low 29 bits of a word.
+pub fn amount(word: u32) -> u32
+    ensures { λ r. ⌜ r ≡ amountIn word ⌝ }
+{
+    word & 0x1fffffff
+}
+
 // The word of a kind and a value.
 fn build(kind: u32, value: u32) -> u32
     requires { ⌜ kind < 4 ⌝ }
@@ -28,6 +43,15 @@ fn build(kind: u32, value: u32) -> u32
     ensures { λ r. ⌜ r ≡ wordOf kind value ⌝ }
 {
     (kind << 30) | value
+}
+
+// The word of a mark and an amount.
+fn build_bound(mark: u32, amount: u32) -> u32
+    requires { ⌜ mark < 8 ⌝ }
+    requires { ⌜ amount < 2 ^ 29 ⌝ }
+    ensures { λ r. ⌜ r ≡ boundWord mark amount ⌝ }
+{
+    (mark << 29) | amount
 }
 
 // A byte as a number of 32 bits.
@@ -71,5 +95,15 @@ pub fn put(kind: u32, value: u32, out: &mut [u8], at: usize) -> usize
     ensures { λ r. ⌜ Puts (wordOf kind value ∷ []) at (now (out .entry)) (now (out .exit)) r ⌝ }
 {
     put_word(build(kind, value), out, at);
+    at + 4
+}
+
+// Puts the word of a mark and an amount into a list, and answers the place behind it.
+pub fn put_bound(mark: u32, amount: u32, out: &mut [u8], at: usize) -> usize
+    requires { ⌜ (mark < 8) × (amount < 2 ^ 29) ⌝ }
+    requires { ⌜ at + 4 ≤ length (now out) ⌝ }
+    ensures { λ r. ⌜ Puts (boundWord mark amount ∷ []) at (now (out .entry)) (now (out .exit)) r ⌝ }
+{
+    put_word(build_bound(mark, amount), out, at);
     at + 4
 }

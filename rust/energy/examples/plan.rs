@@ -1,7 +1,7 @@
 //! Plans document 01's request, records a frame that went otherwise, and plans the rest again.
 //! Run: `rust/cargo run -p energy --example plan`, after `rt staticlib energy`.
 
-use energy::{Energy, Figures, Linked, Refusal};
+use energy::{Energy, Figures, Frames, Linked, Refusal};
 
 /// Prints a label and the budgets.
 fn print_budgets(label: &str, budgets: &[u32]) {
@@ -16,16 +16,16 @@ fn run() -> Result<(), Refusal> {
         start: 2,
         end: 2,
     };
-    let harvest = [6, 4, 0, 0, 5, 5];
+    let frames = Frames::unbounded(&[6, 4, 0, 0, 5, 5]);
     let mut budgets = [0; 6];
 
-    Linked.plan(figures, &harvest, &mut budgets)?;
+    Linked.plan(figures, frames, &mut budgets)?;
     print_budgets("plan", &budgets);
-    println!("needed: {}", Linked.needed(figures, &harvest)?);
+    println!("needed: {}", Linked.needed(figures, frames)?);
 
-    let shift = Linked.shift_start(figures, &harvest)?;
+    let shift = Linked.shift_start(figures, frames)?;
     let shift = Linked.shift_record(shift, 1, 3)?;
-    Linked.shift_plan_rest(shift, &harvest, &mut budgets)?;
+    Linked.shift_plan_rest(shift, frames, &mut budgets)?;
     print_budgets("rest", Linked.shift_rest_part(shift, &budgets)?);
     Ok(())
 }

@@ -1,6 +1,6 @@
 //! `libenergy.a` behind the trait `Energy`: each C function called with lists that are valid, and its answer as a Rust type.
 
-use crate::answers::{Figures, Header, NotRecorded, Rest, Shift, Verdict};
+use crate::answers::{Figures, Frames, Header, NotRecorded, Rest, Shift, Verdict};
 use crate::interface::Energy;
 use crate::raw;
 use crate::refusal::Refusal;
@@ -35,13 +35,17 @@ impl Energy for Linked {
         "linked"
     }
 
-    fn plan(&self, figures: Figures, harvest: &[u32], budgets: &mut [u32]) -> Result<(), Refusal> {
-        // SAFETY: both lists are valid for their lengths, and a mutable list overlaps no other.
+    fn plan(&self, figures: Figures, frames: Frames, budgets: &mut [u32]) -> Result<(), Refusal> {
+        // SAFETY: all lists are valid for their lengths, and a mutable list overlaps no other.
         let answer = unsafe {
             raw::energy_plan(
                 figures,
-                harvest.as_ptr(),
-                harvest.len(),
+                frames.harvest.as_ptr(),
+                frames.harvest.len(),
+                frames.least.as_ptr(),
+                frames.least.len(),
+                frames.most.as_ptr(),
+                frames.most.len(),
                 budgets.as_mut_ptr(),
                 budgets.len(),
             )
@@ -49,9 +53,19 @@ impl Energy for Linked {
         accepted(answer.refusal, ())
     }
 
-    fn needed(&self, figures: Figures, harvest: &[u32]) -> Result<u64, Refusal> {
-        // SAFETY: the list is valid for its length.
-        let answer = unsafe { raw::energy_needed(figures, harvest.as_ptr(), harvest.len()) };
+    fn needed(&self, figures: Figures, frames: Frames) -> Result<u64, Refusal> {
+        // SAFETY: all lists are valid for their lengths.
+        let answer = unsafe {
+            raw::energy_needed(
+                figures,
+                frames.harvest.as_ptr(),
+                frames.harvest.len(),
+                frames.least.as_ptr(),
+                frames.least.len(),
+                frames.most.as_ptr(),
+                frames.most.len(),
+            )
+        };
         accepted(answer.refusal, answer.capacity)
     }
 
@@ -91,9 +105,19 @@ impl Energy for Linked {
         accepted(answer.refusal, answer.sums).map(|sums| [sums.curve0, sums.curve1, sums.curve2])
     }
 
-    fn shift_start(&self, figures: Figures, harvest: &[u32]) -> Result<Shift, Refusal> {
-        // SAFETY: the list is valid for its length.
-        let answer = unsafe { raw::energy_shift_start(figures, harvest.as_ptr(), harvest.len()) };
+    fn shift_start(&self, figures: Figures, frames: Frames) -> Result<Shift, Refusal> {
+        // SAFETY: all lists are valid for their lengths.
+        let answer = unsafe {
+            raw::energy_shift_start(
+                figures,
+                frames.harvest.as_ptr(),
+                frames.harvest.len(),
+                frames.least.as_ptr(),
+                frames.least.len(),
+                frames.most.as_ptr(),
+                frames.most.len(),
+            )
+        };
         accepted(answer.refusal, answer.shift)
     }
 
@@ -107,13 +131,17 @@ impl Energy for Linked {
         }
     }
 
-    fn shift_plan_rest(&self, shift: Shift, harvest: &[u32], budgets: &mut [u32]) -> Result<Rest, Refusal> {
-        // SAFETY: both lists are valid for their lengths, and a mutable list overlaps no other.
+    fn shift_plan_rest(&self, shift: Shift, frames: Frames, budgets: &mut [u32]) -> Result<Rest, Refusal> {
+        // SAFETY: all lists are valid for their lengths, and a mutable list overlaps no other.
         let answer = unsafe {
             raw::energy_shift_plan_rest(
                 shift,
-                harvest.as_ptr(),
-                harvest.len(),
+                frames.harvest.as_ptr(),
+                frames.harvest.len(),
+                frames.least.as_ptr(),
+                frames.least.len(),
+                frames.most.as_ptr(),
+                frames.most.len(),
                 budgets.as_mut_ptr(),
                 budgets.len(),
             )
@@ -131,16 +159,38 @@ impl Energy for Linked {
         accepted(answer.refusal, (answer.from, answer.length)).map(|(from, length)| &budgets[from..][..length])
     }
 
-    fn read(&self, file: &[u8], harvest: &mut [u32]) -> Result<Header, Refusal> {
-        // SAFETY: both lists are valid for their lengths, and a mutable list overlaps no other.
-        let answer = unsafe { raw::energy_read(file.as_ptr(), file.len(), harvest.as_mut_ptr(), harvest.len()) };
+    fn read(&self, file: &[u8], harvest: &mut [u32], least: &mut [u32], most: &mut [u32]) -> Result<Header, Refusal> {
+        // SAFETY: all lists are valid for their lengths, and a mutable list overlaps no other.
+        let answer = unsafe {
+            raw::energy_read(
+                file.as_ptr(),
+                file.len(),
+                harvest.as_mut_ptr(),
+                harvest.len(),
+                least.as_mut_ptr(),
+                least.len(),
+                most.as_mut_ptr(),
+                most.len(),
+            )
+        };
         accepted(answer.refusal, answer.header)
     }
 
-    fn write(&self, figures: Figures, harvest: &[u32], file: &mut [u8]) -> Result<usize, Refusal> {
-        // SAFETY: both lists are valid for their lengths, and a mutable list overlaps no other.
-        let answer =
-            unsafe { raw::energy_write(figures, harvest.as_ptr(), harvest.len(), file.as_mut_ptr(), file.len()) };
+    fn write(&self, figures: Figures, frames: Frames, file: &mut [u8]) -> Result<usize, Refusal> {
+        // SAFETY: all lists are valid for their lengths, and a mutable list overlaps no other.
+        let answer = unsafe {
+            raw::energy_write(
+                figures,
+                frames.harvest.as_ptr(),
+                frames.harvest.len(),
+                frames.least.as_ptr(),
+                frames.least.len(),
+                frames.most.as_ptr(),
+                frames.most.len(),
+                file.as_mut_ptr(),
+                file.len(),
+            )
+        };
         accepted(answer.refusal, answer.bytes)
     }
 

@@ -1,9 +1,13 @@
 //! The declarations of include/energy.h, made by rust/energy/bindings: not written by hand.
 
 pub const ENERGY_MAX_FRAMES: u32 = 672;
-pub const ENERGY_MAX_FILE_BYTES: u32 = 2704;
+pub const ENERGY_OTHER_WORDS: u32 = 4;
+pub const ENERGY_FRAME_WORDS: u32 = 3;
+pub const ENERGY_MAX_FILE_BYTES: u32 = 8080;
 pub const ENERGY_MAX_CAPACITY: u32 = 1000000000;
 pub const ENERGY_MAX_HARVEST: u32 = 400000;
+pub const ENERGY_MAX_BOUND: u32 = 536870911;
+pub const ENERGY_NO_UPPER_END: u32 = 4294967295;
 pub const ENERGY_LISTING_BYTES: u32 = 22267;
 pub const ENERGY_FEASIBLE: u32 = 0;
 pub const ENERGY_END_TOO_LOW: u32 = 1;
@@ -123,12 +127,24 @@ extern "C" {
         figures: EnergyFigures,
         harvest: *const u32,
         harvest_length: usize,
+        least: *const u32,
+        least_length: usize,
+        most: *const u32,
+        most_length: usize,
         budgets: *mut u32,
         budgets_length: usize,
     ) -> EnergyPlanAnswer;
 }
 extern "C" {
-    pub fn energy_needed(figures: EnergyFigures, harvest: *const u32, harvest_length: usize) -> EnergyNeededAnswer;
+    pub fn energy_needed(
+        figures: EnergyFigures,
+        harvest: *const u32,
+        harvest_length: usize,
+        least: *const u32,
+        least_length: usize,
+        most: *const u32,
+        most_length: usize,
+    ) -> EnergyNeededAnswer;
 }
 extern "C" {
     pub fn energy_trace(
@@ -147,7 +163,15 @@ extern "C" {
     pub fn energy_grade(budgets: *const u32, budgets_length: usize) -> EnergyGradeAnswer;
 }
 extern "C" {
-    pub fn energy_shift_start(figures: EnergyFigures, harvest: *const u32, harvest_length: usize) -> EnergyShiftAnswer;
+    pub fn energy_shift_start(
+        figures: EnergyFigures,
+        harvest: *const u32,
+        harvest_length: usize,
+        least: *const u32,
+        least_length: usize,
+        most: *const u32,
+        most_length: usize,
+    ) -> EnergyShiftAnswer;
 }
 extern "C" {
     pub fn energy_shift_record(shift: EnergyShift, harvest: u32, used: u32) -> EnergyShiftAnswer;
@@ -157,6 +181,10 @@ extern "C" {
         shift: EnergyShift,
         harvest: *const u32,
         harvest_length: usize,
+        least: *const u32,
+        least_length: usize,
+        most: *const u32,
+        most_length: usize,
         budgets: *mut u32,
         budgets_length: usize,
     ) -> EnergyRestAnswer;
@@ -170,6 +198,10 @@ extern "C" {
         file_length: usize,
         harvest: *mut u32,
         harvest_length: usize,
+        least: *mut u32,
+        least_length: usize,
+        most: *mut u32,
+        most_length: usize,
     ) -> EnergyReadAnswer;
 }
 extern "C" {
@@ -177,6 +209,10 @@ extern "C" {
         figures: EnergyFigures,
         harvest: *const u32,
         harvest_length: usize,
+        least: *const u32,
+        least_length: usize,
+        most: *const u32,
+        most_length: usize,
         file: *mut u8,
         file_length: usize,
     ) -> EnergyWriteAnswer;

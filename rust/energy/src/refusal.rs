@@ -1,6 +1,6 @@
 //! Document 01's refusals: a number, a P, and a sentence for people.
 
-use crate::{MAX_CAPACITY, MAX_FILE_BYTES, MAX_FRAMES, MAX_HARVEST};
+use crate::{MAX_BOUND, MAX_CAPACITY, MAX_FILE_BYTES, MAX_FRAMES, MAX_HARVEST};
 use std::fmt;
 
 /// A refusal of document 01. P is the value that a variant holds, 0 where it holds none.
@@ -24,6 +24,11 @@ pub enum Refusal {
     Malformed { word: u64 },
     /// 9: start plus all harvest is below the end charge by the missing amount.
     OutOfReach { missing: u64 },
+    /// 10: a least above its most, or a least or a most above [`MAX_BOUND`], save the most that means no upper end; at the
+    /// earliest such frame.
+    BadBounds { frame: u64 },
+    /// 11: the leasts taken as budgets are not feasible; for the needed capacity, not with unlimited storage.
+    LeastsNotFeasible,
     /// 20: every frame is recorded already.
     AllRecorded,
     /// 21: use greater than charge plus harvest by the excess.
@@ -47,6 +52,8 @@ impl Refusal {
             Refusal::WrongLength => 7,
             Refusal::Malformed { .. } => 8,
             Refusal::OutOfReach { .. } => 9,
+            Refusal::BadBounds { .. } => 10,
+            Refusal::LeastsNotFeasible => 11,
             Refusal::AllRecorded => 20,
             Refusal::UseAboveCharge { .. } => 21,
             Refusal::NotAShift => 22,
@@ -60,6 +67,7 @@ impl Refusal {
             Refusal::HarvestOverLimit { frame } => frame,
             Refusal::Malformed { word } => word,
             Refusal::OutOfReach { missing } => missing,
+            Refusal::BadBounds { frame } => frame,
             Refusal::UseAboveCharge { excess } => excess,
             Refusal::Unknown { p, .. } => p,
             _ => 0,
@@ -78,6 +86,8 @@ impl Refusal {
             (7, 0) => Refusal::WrongLength,
             (8, word) => Refusal::Malformed { word },
             (9, missing) => Refusal::OutOfReach { missing },
+            (10, frame) => Refusal::BadBounds { frame },
+            (11, 0) => Refusal::LeastsNotFeasible,
             (20, 0) => Refusal::AllRecorded,
             (21, excess) => Refusal::UseAboveCharge { excess },
             (22, 0) => Refusal::NotAShift,
@@ -104,6 +114,13 @@ impl Refusal {
             Refusal::Malformed { word } => format!("the word file is malformed at word {word}, counted from 0"),
             Refusal::OutOfReach { missing } => {
                 format!("the end charge is out of reach: start charge and all harvest are {missing} Wh short of it")
+            }
+            Refusal::BadBounds { frame } => {
+                format!("the least of frame {frame} is above its most, or one of them is above {MAX_BOUND} Wh")
+            }
+            Refusal::LeastsNotFeasible => {
+                "the leasts are out of reach: as budgets they run the store dry, or leave less than the end charge"
+                    .into()
             }
             Refusal::AllRecorded => "every frame is recorded already".into(),
             Refusal::UseAboveCharge { excess } => format!("the use is {excess} Wh above charge and harvest"),

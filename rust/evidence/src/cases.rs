@@ -1,5 +1,7 @@
 //! A case is one call, or one shift with its calls, with everything that it depends on; it prints as text and is read back.
 
+use crate::lists::Lists;
+use crate::reference::limits::NO_UPPER_END;
 use energy::{Figures, Present, Shift, Terms, Totals};
 use std::fmt;
 use std::str::FromStr;
@@ -9,8 +11,8 @@ use std::str::FromStr;
 pub enum Call {
     /// The typed harvest and use.
     Record { harvest: u32, used: u32 },
-    /// The harvests lent, and the length of the budget list.
-    Rest { harvest: Vec<u32>, budgets: usize },
+    /// The lists lent, and the length of the budget list.
+    Rest { lists: Lists, budgets: usize },
     /// The length of the budget list.
     Part { budgets: usize },
 }
@@ -20,12 +22,12 @@ pub enum Call {
 pub enum Case {
     Plan {
         figures: Figures,
-        harvest: Vec<u32>,
+        lists: Lists,
         budgets: usize,
     },
     Needed {
         figures: Figures,
-        harvest: Vec<u32>,
+        lists: Lists,
     },
     Trace {
         figures: Figures,
@@ -40,7 +42,7 @@ pub enum Case {
     /// A shift from its start on, with its list of calls.
     Run {
         figures: Figures,
-        harvest: Vec<u32>,
+        lists: Lists,
         calls: Vec<Call>,
     },
     /// One call on any record.
@@ -48,13 +50,14 @@ pub enum Case {
         shift: Shift,
         call: Call,
     },
+    /// The lengths of the lists of harvests, leasts and mosts.
     Read {
         file: Vec<u8>,
-        room: usize,
+        rooms: [usize; 3],
     },
     Write {
         figures: Figures,
-        harvest: Vec<u32>,
+        lists: Lists,
         room: usize,
     },
     Listing {
@@ -70,6 +73,21 @@ impl fmt::Display for List<'_> {
     fn fmt(&self, f: &mut fmt::Formatter<'_>) -> fmt::Result {
         let words: Vec<String> = self.0.iter().map(u32::to_string).collect();
         write!(f, "[{}]", words.join(" "))
+    }
+}
+
+/// Three lists as they are printed: `[6 4] [0 2] [3 -]`, with `-` for no upper end.
+struct Bounded<'a>(&'a Lists);
+
+impl fmt::Display for Bounded<'_> {
+    fn fmt(&self, f: &mut fmt::Formatter<'_>) -> fmt::Result {
+        let Lists { harvest, least, most } = self.0;
+        let end = |&most: &u32| match most {
+            NO_UPPER_END => "-".to_string(),
+            most => most.to_string(),
+        };
+        let mosts: Vec<String> = most.iter().map(end).collect();
+        write!(f, "{} {} [{}]", List(harvest), List(least), mosts.join(" "))
     }
 }
 
@@ -122,7 +140,7 @@ impl fmt::Display for Call {
     fn fmt(&self, f: &mut fmt::Formatter<'_>) -> fmt::Result {
         match self {
             Call::Record { harvest, used } => write!(f, "record {harvest} {used}"),
-            Call::Rest { harvest, budgets } => write!(f, "rest {} {budgets}", List(harvest)),
+            Call::Rest { lists, budgets } => write!(f, "rest {} {budgets}", Bounded(lists)),
             Call::Part { budgets } => write!(f, "part {budgets}"),
         }
     }
@@ -133,10 +151,10 @@ impl fmt::Display for Case {
         match self {
             Case::Plan {
                 figures,
-                harvest,
+                lists,
                 budgets,
-            } => write!(f, "plan {} {} {budgets}", Three(figures), List(harvest)),
-            Case::Needed { figures, harvest } => write!(f, "needed {} {}", Three(figures), List(harvest)),
+            } => write!(f, "plan {} {} {budgets}", Three(figures), Bounded(lists)),
+            Case::Needed { figures, lists } => write!(f, "needed {} {}", Three(figures), Bounded(lists)),
             Case::Trace {
                 figures,
                 harvest,
@@ -151,17 +169,13 @@ impl fmt::Display for Case {
                 List(budgets)
             ),
             Case::Grade { budgets } => write!(f, "grade {}", List(budgets)),
-            Case::Run {
-                figures,
-                harvest,
-                calls,
-            } => {
-                write!(f, "run {} {}", Three(figures), List(harvest))?;
+            Case::Run { figures, lists, calls } => {
+                write!(f, "run {} {}", Three(figures), Bounded(lists))?;
                 calls.iter().try_for_each(|call| write!(f, " {call}"))
             }
             Case::On { shift, call } => write!(f, "on {} {call}", Nine(shift)),
-            Case::Read { file, room } => write!(f, "read {} {room}", Hex(file)),
-            Case::Write { figures, harvest, room } => write!(f, "write {} {} {room}", Three(figures), List(harvest)),
+            Case::Read { file, rooms: [h, l, m] } => write!(f, "read {} {h} {l} {m}", Hex(file)),
+            Case::Write { figures, lists, room } => write!(f, "write {} {} {room}", Three(figures), Bounded(lists)),
             Case::Listing { file, room } => write!(f, "listing {} {room}", Hex(file)),
         }
     }
@@ -222,15 +236,34 @@ impl<'a> Words<'a> {
     }
 
     fn list(&mut self) -> Result<Vec<u32>, String> {
+        self.entries(|words| words.number())
+    }
+
+    fn entries(&mut self, entry: fn(&mut Words<'a>) -> Result<u32, String>) -> Result<Vec<u32>, String> {
         if self.word()? != "[" {
             return Err("a list begins with [".to_string());
         }
         let mut list = Vec::new();
         while self.0.peek().map_or(false, |&word| word != "]") {
-            list.push(self.number()?);
+            list.push(entry(self)?);
         }
         self.word()?;
         Ok(list)
+    }
+
+    fn most(&mut self) -> Result<u32, String> {
+        match self.0.next_if_eq(&"-") {
+            Some(_) => Ok(NO_UPPER_END),
+            None => self.number(),
+        }
+    }
+
+    fn lists(&mut self) -> Result<Lists, String> {
+        Ok(Lists {
+            harvest: self.list()?,
+            least: self.list()?,
+            most: self.entries(Words::most)?,
+        })
     }
 
     fn bytes(&mut self) -> Result<Vec<u8>, String> {
@@ -250,7 +283,7 @@ impl<'a> Words<'a> {
                 used: self.number()?,
             }),
             "rest" => Ok(Call::Rest {
-                harvest: self.list()?,
+                lists: self.lists()?,
                 budgets: self.number()?,
             }),
             "part" => Ok(Call::Part {
@@ -272,12 +305,12 @@ impl<'a> Words<'a> {
         Ok(match self.word()? {
             "plan" => Case::Plan {
                 figures: self.figures()?,
-                harvest: self.list()?,
+                lists: self.lists()?,
                 budgets: self.number()?,
             },
             "needed" => Case::Needed {
                 figures: self.figures()?,
-                harvest: self.list()?,
+                lists: self.lists()?,
             },
             "trace" => Case::Trace {
                 figures: self.figures()?,
@@ -289,7 +322,7 @@ impl<'a> Words<'a> {
             "grade" => Case::Grade { budgets: self.list()? },
             "run" => Case::Run {
                 figures: self.figures()?,
-                harvest: self.list()?,
+                lists: self.lists()?,
                 calls: self.calls()?,
             },
             "on" => Case::On {
@@ -298,11 +331,11 @@ impl<'a> Words<'a> {
             },
             "read" => Case::Read {
                 file: self.bytes()?,
-                room: self.number()?,
+                rooms: [self.number()?, self.number()?, self.number()?],
             },
             "write" => Case::Write {
                 figures: self.figures()?,
-                harvest: self.list()?,
+                lists: self.lists()?,
                 room: self.number()?,
             },
             "listing" => Case::Listing {
@@ -334,20 +367,21 @@ mod tests {
     #[test]
     fn a_printed_case_is_read_back() {
         for text in [
-            "plan 5 2 2 [6 4 0 0 5 5] 6",
-            "needed 5 2 2 []",
+            "plan 5 2 2 [6 4 0 0 5 5] [0 0 0 3 0 0] [3 - - - - 9] 6",
+            "needed 5 2 2 [] [1] []",
             "trace 22 2 2 [6 4] [4 4] 2 3",
             "grade [4294967295]",
-            "run 5 2 2 [6 4] record 1 3 rest [6 4] 2 part 2",
+            "run 5 2 2 [6 4] [0 0] [- -] record 1 3 rest [6 4] [1 2] [7 -] 2 part 2",
             "on 6 5 2 2 0 2 0 0 18446744073709551615 record 1 3",
-            "read x0900000000 3",
-            "write 9 0 0 [1 2] 24",
+            "read x0900000000 3 2 1",
+            "write 9 0 0 [1 2] [0 4294967295] [- 0] 24",
             "listing x 99",
         ] {
             let case: Case = text.parse().expect(text);
             assert_eq!(case.to_string(), text);
         }
         assert!("plan 5 2 2 [6".parse::<Case>().is_err());
+        assert!("needed 5 2 2 [6] [-] [-]".parse::<Case>().is_err());
         assert!("grade [1] 2".parse::<Case>().is_err());
     }
 }

@@ -1,13 +1,17 @@
 //! One case through an implementation, compared with the reference: every answer, and every lent list afterwards.
 
 use crate::cases::{Call, Case};
+use crate::lists::Lists;
 use crate::reference::logbook::Logbook;
 use crate::reference::Reference;
-use energy::{Energy, Figures, Shift};
+use energy::{Energy, Figures, Header, Refusal, Shift};
 use std::fmt::Debug;
 
 /// What written lists hold beforehand, so that a byte too many or too few shows.
 const OLD_BUDGET: u32 = 3_333_333_333;
+const OLD_HARVEST: u32 = 3_111_111_111;
+const OLD_LEAST: u32 = 2_777_777_777;
+const OLD_MOST: u32 = 2_999_999_999;
 const OLD_CHARGE: i64 = -9_999;
 const OLD_LOSS: u32 = 2_222_222_222;
 const OLD_BYTE: u8 = 0xa5;
@@ -29,18 +33,18 @@ pub fn check(energy: &dyn Energy, case: &Case) -> Checked {
     match case {
         Case::Plan {
             figures,
-            harvest,
+            lists,
             budgets,
         } => twice(
             energy,
             vec![OLD_BUDGET; *budgets],
-            |energy, budgets| energy.plan(*figures, harvest, budgets),
+            |energy, budgets| energy.plan(*figures, lists.frames(), budgets),
             "plan",
         ),
-        Case::Needed { figures, harvest } => same(
+        Case::Needed { figures, lists } => same(
             "needed",
-            energy.needed(*figures, harvest),
-            Reference.needed(*figures, harvest),
+            energy.needed(*figures, lists.frames()),
+            Reference.needed(*figures, lists.frames()),
         ),
         Case::Trace {
             figures,
@@ -55,19 +59,15 @@ pub fn check(energy: &dyn Energy, case: &Case) -> Checked {
             "trace",
         ),
         Case::Grade { budgets } => same("grade", energy.grade(budgets), Reference.grade(budgets)),
-        Case::Run {
-            figures,
-            harvest,
-            calls,
-        } => check_run(energy, *figures, harvest, calls),
+        Case::Run { figures, lists, calls } => check_run(energy, *figures, lists, calls),
         Case::On { shift, call } => check_on(energy, *shift, call),
-        Case::Read { file, room } => twice(
+        Case::Read { file, rooms } => twice(
             energy,
-            vec![OLD_BUDGET; *room],
-            |energy, harvest| energy.read(file, harvest),
+            old_lists(*rooms),
+            |energy, lists| read(energy, file, lists),
             "read",
         ),
-        Case::Write { figures, harvest, room } => check_write(energy, *figures, harvest, *room),
+        Case::Write { figures, lists, room } => check_write(energy, *figures, lists, *room),
         Case::Listing { file, room } => twice(
             energy,
             vec![OLD_BYTE; *room],
@@ -100,27 +100,43 @@ fn twice<L: Clone + PartialEq + Debug, A: PartialEq + Debug>(
     same(&format!("{what}, what is written"), given, expected)
 }
 
+/// Lists of these lengths to read a file into.
+fn old_lists(rooms: [usize; 3]) -> Lists {
+    let [harvest, least, most] = rooms;
+    Lists {
+        harvest: vec![OLD_HARVEST; harvest],
+        least: vec![OLD_LEAST; least],
+        most: vec![OLD_MOST; most],
+    }
+}
+
+/// Reads a file into lists.
+fn read(energy: &dyn Energy, file: &[u8], lists: &mut Lists) -> Result<Header, Refusal> {
+    energy.read(file, &mut lists.harvest, &mut lists.least, &mut lists.most)
+}
+
 /// Writes a file, and reads back what was written.
-fn check_write(energy: &dyn Energy, figures: Figures, harvest: &[u32], room: usize) -> Checked {
+fn check_write(energy: &dyn Energy, figures: Figures, lists: &Lists, room: usize) -> Checked {
     twice(
         energy,
         vec![OLD_BYTE; room],
-        |energy, file| energy.write(figures, harvest, file),
+        |energy, file| energy.write(figures, lists.frames(), file),
         "write",
     )?;
     let mut file = vec![OLD_BYTE; room];
-    let length = match energy.write(figures, harvest, &mut file) {
+    let length = match energy.write(figures, lists.frames(), &mut file) {
         Ok(length) => length,
         Err(_) => return Ok(()),
     };
-    let mut back = vec![OLD_BUDGET; harvest.len() + 3];
-    let read = energy
-        .read(&file[..length], &mut back)
-        .map_err(|refusal| format!("reads back: {refusal}"))?;
-    same("figures read back", read.figures, figures)?;
-    same("frames read back", read.frames, harvest.len())?;
-    same("harvests read back", &back[..harvest.len()], harvest)?;
-    same("surplus", &back[harvest.len()..], &[OLD_BUDGET; 3])
+    let frames = lists.count();
+    let mut back = old_lists([frames + 3, frames + 2, frames + 1]);
+    let header = read(energy, &file[..length], &mut back).map_err(|refusal| format!("reads back: {refusal}"))?;
+    same("what is read back", header, Header { figures, frames })?;
+    let mut expected = lists.clone();
+    expected.harvest.extend([OLD_HARVEST; 3]);
+    expected.least.extend([OLD_LEAST; 2]);
+    expected.most.extend([OLD_MOST; 1]);
+    same("lists read back, and their surplus", back, expected)
 }
 
 /// Budgets as a caller might have them, with another value in every place.
@@ -141,10 +157,10 @@ fn check_on(energy: &dyn Energy, shift: Shift, call: &Call) -> Checked {
             energy.shift_record(shift, *harvest, *used),
             Reference.shift_record(shift, *harvest, *used),
         ),
-        Call::Rest { harvest, budgets } => twice(
+        Call::Rest { lists, budgets } => twice(
             energy,
             old_budgets(*budgets),
-            |energy, budgets| energy.shift_plan_rest(shift, harvest, budgets),
+            |energy, budgets| energy.shift_plan_rest(shift, lists.frames(), budgets),
             "rest",
         ),
         Call::Part { budgets } => {
@@ -161,15 +177,15 @@ fn check_on(energy: &dyn Energy, shift: Shift, call: &Call) -> Checked {
 }
 
 /// A whole shift: after every call the answer and the record are the logbook's, and so are the budgets.
-fn check_run(energy: &dyn Energy, figures: Figures, harvest: &[u32], calls: &[Call]) -> Checked {
-    let started = energy.shift_start(figures, harvest);
-    same("start", started, Reference.shift_start(figures, harvest))?;
+fn check_run(energy: &dyn Energy, figures: Figures, lists: &Lists, calls: &[Call]) -> Checked {
+    let started = energy.shift_start(figures, lists.frames());
+    same("start", started, Reference.shift_start(figures, lists.frames()))?;
     let mut shift = match started {
         Ok(shift) => shift,
         Err(_) => return Ok(()),
     };
-    let mut log = Logbook::open(figures, harvest);
-    let mut given = old_budgets(harvest.len());
+    let mut log = Logbook::open(figures, lists.count());
+    let mut given = old_budgets(lists.count());
     let mut expected = given.clone();
     for (i, call) in calls.iter().enumerate() {
         let what = format!("call {} ({call})", i + 1);
@@ -183,11 +199,11 @@ fn check_run(energy: &dyn Energy, figures: Figures, harvest: &[u32], calls: &[Ca
                 )?;
                 shift = answer.unwrap_or_else(|not| not.shift);
             }
-            Call::Rest { harvest, budgets } => {
+            Call::Rest { lists, budgets } => {
                 given.resize(*budgets, OLD_BUDGET);
                 expected.resize(*budgets, OLD_BUDGET);
-                let answer = energy.shift_plan_rest(shift, harvest, &mut given);
-                same(&what, answer, log.plan_rest(harvest, &mut expected))?;
+                let answer = energy.shift_plan_rest(shift, lists.frames(), &mut given);
+                same(&what, answer, log.plan_rest(lists.frames(), &mut expected))?;
             }
             Call::Part { budgets } => {
                 given.resize(*budgets, OLD_BUDGET);

@@ -2,11 +2,12 @@
 
 use crate::cases::{Call, Case};
 use crate::families::{Family, FAMILIES};
+use crate::lists::Lists;
 use crate::random::Random;
-use crate::reference::limits::{MAX_CAPACITY, MAX_FILE_BYTES, MAX_FRAMES, MAX_HARVEST};
+use crate::reference::limits::{MAX_BOUND, MAX_CAPACITY, MAX_FILE_BYTES, MAX_FRAMES, MAX_HARVEST, NO_UPPER_END};
 use crate::reference::wordfile::file_bytes;
 use crate::reference::Reference;
-use energy::{Energy, Figures, Present, Shift, Terms, Totals, LISTING_BYTES};
+use energy::{Energy, Figures, Frames, Present, Shift, Terms, Totals, LISTING_BYTES};
 
 /// How many frames: mostly few, now and then a day, seldom at the limit.
 fn frames(random: &mut Random) -> usize {
@@ -78,6 +79,87 @@ fn figures(harvest: &[u32], random: &mut Random) -> Figures {
     }
 }
 
+/// A request of so many frames: mostly valid and within reach, with bounds or without.
+fn request(frames: usize, random: &mut Random) -> (Figures, Lists) {
+    let harvest = harvest(frames, random);
+    let figures = figures(&harvest, random);
+    let mut lists = Lists::unbounded(harvest);
+    bound(figures, &mut lists, random);
+    (figures, lists)
+}
+
+/// Bounds of every sort: none, scattered ones, such around the plan, and now and then one at its limit or a bad one.
+fn bound(figures: Figures, lists: &mut Lists, random: &mut Random) {
+    match random.up_to(9) {
+        0..=2 => {}
+        3 | 4 => bound_around_plan(figures, lists, random),
+        _ => scatter_bounds(figures, lists, random),
+    }
+    if lists.count() > 0 && random.one_in(10) {
+        let place = random.up_to(lists.count() as u64 - 1) as usize;
+        bound_at_limit(&mut lists.least[place], &mut lists.most[place], random);
+    }
+}
+
+/// Leasts and mosts in some of the frames, up to a share of what there is for each; some frames are bound to one budget.
+fn scatter_bounds(figures: Figures, lists: &mut Lists, random: &mut Random) {
+    let all: u64 = lists.harvest.iter().map(|&h| u64::from(h)).sum();
+    let mean = (u64::from(figures.start) + all) / lists.count().max(1) as u64;
+    let share = mean.min(u64::from(MAX_BOUND) / 4) as u32;
+    let (low, high) = (*random.pick(&[0, share / 2, share, share * 2]), share * 2 + 1);
+    let (leasts, mosts) = (*random.pick(&[1, 3, 6]), *random.pick(&[1, 2, 4]));
+    for (least, most) in lists.least.iter_mut().zip(&mut lists.most) {
+        if random.one_in(leasts) {
+            *least = random.up_to_u32(low);
+        }
+        if random.one_in(mosts) {
+            *most = *least + random.up_to_u32(high);
+        }
+        if random.one_in(16) {
+            *most = *least;
+        }
+    }
+}
+
+/// Leasts and mosts at the budgets of the plan without bounds, or one beside them.
+fn bound_around_plan(figures: Figures, lists: &mut Lists, random: &mut Random) {
+    let mut plan = vec![0; lists.count()];
+    // A refusal leaves zeros, which are as good a list as any.
+    let _ = Reference.plan(figures, lists.frames(), &mut plan);
+    let (away, leasts, mosts) = (random.up_to_u32(3), random.one_in(2), random.one_in(2));
+    for (i, &budget) in plan.iter().enumerate() {
+        if leasts && random.one_in(2) {
+            lists.least[i] = (budget + u32::from(random.one_in(9))).saturating_sub(random.up_to_u32(away));
+        }
+        if mosts && random.one_in(2) {
+            lists.most[i] = lists.least[i].max(budget.saturating_sub(1) + random.up_to_u32(away));
+        }
+    }
+}
+
+/// Puts one bound of a frame at or above its limit, or the least above the most.
+fn bound_at_limit(least: &mut u32, most: &mut u32, random: &mut Random) {
+    match random.up_to(6) {
+        0 => *least = MAX_BOUND + random.up_to_u32(1),
+        1 => *most = MAX_BOUND + random.up_to_u32(1),
+        2 => *most = *random.pick(&[1 << 30, NO_UPPER_END - 1, NO_UPPER_END]),
+        3 => *least = *random.pick(&[1 << 30, NO_UPPER_END - 1, NO_UPPER_END]),
+        4 => (*least, *most) = (random.bits() as u32, random.bits() as u32),
+        _ => {
+            *most = random.up_to_u32(9);
+            *least = *most + 1;
+        }
+    }
+}
+
+/// Now and then a wrong length for one of the lists of bounds.
+fn lend(lists: &mut Lists, random: &mut Random) {
+    let least = length(lists.least.len(), random);
+    lists.least.resize(least, 0);
+    let most = length(lists.most.len(), random);
+    lists.most.resize(most, NO_UPPER_END);
+}
+
 /// The right length, or now and then a wrong one.
 fn length(right: usize, random: &mut Random) -> usize {
     match random.up_to(39) {
@@ -98,7 +180,7 @@ fn budgets(figures: Figures, harvest: &[u32], random: &mut Random) -> Vec<u32> {
         1 => list = random.list(count, most),
         _ => {
             // A refusal leaves zeros, which are as good a list as any.
-            let _ = Reference.plan(figures, harvest, &mut list);
+            let _ = Reference.plan(figures, Frames::unbounded(harvest), &mut list);
             if count > 0 && random.one_in(2) {
                 let place = random.up_to(count as u64 - 1) as usize;
                 list[place] = list[place].wrapping_add(random.up_to_u32(2)).wrapping_sub(1);
@@ -108,23 +190,13 @@ fn budgets(figures: Figures, harvest: &[u32], random: &mut Random) -> Vec<u32> {
     list
 }
 
-/// A call on a shift's record, given the harvests that it was started from.
-fn call(shift: &Shift, lent: &[u32], random: &mut Random) -> Call {
-    let next = lent.get(shift.now.recorded as usize).copied().unwrap_or(0);
+/// A call on a shift's record, given the lists that it was started from.
+fn call(shift: &Shift, started: &Lists, random: &mut Random) -> Call {
+    let next = started.harvest.get(shift.now.recorded as usize).copied().unwrap_or(0);
     match random.up_to(9) {
-        0..=2 => {
-            let mut harvest = lent.to_vec();
-            if random.one_in(3) {
-                harvest = self::harvest(lent.len(), random);
-            }
-            harvest.resize(length(harvest.len(), random), 5);
-            Call::Rest {
-                harvest,
-                budgets: length(lent.len(), random),
-            }
-        }
+        0..=2 => rest(shift, started, random),
         3 => Call::Part {
-            budgets: length(lent.len(), random),
+            budgets: length(started.count(), random),
         },
         _ => {
             let harvest = match random.up_to(9) {
@@ -148,44 +220,64 @@ fn call(shift: &Shift, lent: &[u32], random: &mut Random) -> Call {
     }
 }
 
+/// Planning the rest with the lists of the start, or with other harvests or other bounds.
+fn rest(shift: &Shift, started: &Lists, random: &mut Random) -> Call {
+    let mut lists = started.clone();
+    if random.one_in(3) {
+        lists.harvest = harvest(lists.count(), random);
+    }
+    if random.one_in(3) {
+        let now = Figures {
+            capacity: shift.terms.capacity,
+            start: shift.now.charge,
+            end: shift.terms.end,
+        };
+        lists = Lists::unbounded(lists.harvest);
+        bound(now, &mut lists, random);
+    }
+    lend(&mut lists, random);
+    let harvests = length(lists.count(), random);
+    lists.harvest.resize(harvests, 5);
+    Call::Rest {
+        lists,
+        budgets: length(started.count(), random),
+    }
+}
+
 /// A shift from its start, with calls that go past its last frame.
 fn run(random: &mut Random) -> Case {
-    let harvest = harvest(frames(random).min(100), random);
-    let figures = figures(&harvest, random);
+    let (figures, mut lists) = request(frames(random).min(100), random);
+    lend(&mut lists, random);
     let mut calls = Vec::new();
-    if let Ok(mut shift) = Reference.shift_start(figures, &harvest) {
-        for _ in 0..random.up_to(2 * harvest.len() as u64 + 3) {
-            let call = call(&shift, &harvest, random);
+    if let Ok(mut shift) = Reference.shift_start(figures, lists.frames()) {
+        for _ in 0..random.up_to(2 * lists.count() as u64 + 3) {
+            let call = call(&shift, &lists, random);
             if let Call::Record { harvest, used } = call {
                 shift = Reference.shift_record(shift, harvest, used).unwrap_or(shift);
             }
             calls.push(call);
         }
     }
-    Case::Run {
-        figures,
-        harvest,
-        calls,
-    }
+    Case::Run { figures, lists, calls }
 }
 
 /// One call on a record: a good one, one with a field changed, a balanced one with an impossible history, or any.
 fn on(random: &mut Random) -> Case {
-    let harvest = harvest(1 + frames(random).min(30), random);
-    let figures = figures(&harvest, random);
+    let (figures, lists) = request(1 + frames(random).min(30), random);
+    let count = lists.count();
     let mut shift = Reference
-        .shift_start(figures, &harvest)
-        .unwrap_or_else(|_| balanced(&harvest, random));
-    for &h in harvest.iter().take(random.up_to(harvest.len() as u64) as usize) {
+        .shift_start(figures, lists.frames())
+        .unwrap_or_else(|_| balanced(count, random));
+    for &h in lists.harvest.iter().take(random.up_to(count as u64) as usize) {
         let used = random.up_to(u64::from(shift.now.charge) + u64::from(h)) as u32;
         shift = Reference.shift_record(shift, h, used).unwrap_or(shift);
     }
     match random.up_to(3) {
         0 => change(&mut shift, random),
-        1 => shift = balanced(&harvest, random),
+        1 => shift = balanced(count, random),
         _ => {}
     }
-    let call = call(&shift, &harvest, random);
+    let call = call(&shift, &lists, random);
     Case::On { shift, call }
 }
 
@@ -215,8 +307,8 @@ fn change(shift: &mut Shift, random: &mut Random) {
 }
 
 /// A record whose totals balance, whatever its history would have to be.
-fn balanced(harvest: &[u32], random: &mut Random) -> Shift {
-    let frames = harvest.len() as u32;
+fn balanced(frames: usize, random: &mut Random) -> Shift {
+    let frames = frames as u32;
     let recorded = random.up_to_u32(frames);
     let capacity = *random.pick(&[0, 5, 1_000, MAX_CAPACITY, MAX_CAPACITY + 1]);
     let start = random.up_to_u32(capacity);
@@ -255,7 +347,7 @@ fn file(random: &mut Random) -> Vec<u8> {
         1 => likely_words(random),
         2 => sized_file(random),
         _ => {
-            let mut bytes = well_formed(frames(random).min(MAX_FRAMES), random);
+            let mut bytes = well_formed(frames(random), random);
             for _ in 0..random.up_to(2) {
                 damage(&mut bytes, random);
             }
@@ -266,37 +358,60 @@ fn file(random: &mut Random) -> Vec<u8> {
 
 /// A file of the right form, whose figures may be refused.
 fn well_formed(frames: usize, random: &mut Random) -> Vec<u8> {
-    let harvest = harvest(frames, random);
-    let figures = figures(&harvest, random);
-    let mask = 0x3fff_ffff;
-    let mut words = vec![figures.capacity & mask, figures.start & mask, figures.end & mask];
-    words.extend(harvest.iter().map(|h| h & mask | 1 << 30));
-    words.push(3 << 30 | harvest.len() as u32);
+    let (figures, lists) = request(frames, random);
+    let leaves_out = !random.one_in(4);
+    form(figures, &lists, |bound, absent| leaves_out && bound == absent)
+}
+
+/// The words of a request, each number cut to what its word can hold; bounds that are left out are told by the bound and
+/// the one that means absent.
+fn form(figures: Figures, lists: &Lists, left_out: impl Fn(u32, u32) -> bool) -> Vec<u8> {
+    let (value, amount) = (0x3fff_ffff, 0x1fff_ffff);
+    let mut words = vec![figures.capacity & value, figures.start & value, figures.end & value];
+    for (i, &harvest) in lists.harvest.iter().enumerate() {
+        words.push(harvest & value | 1 << 30);
+        if !left_out(lists.least[i], 0) {
+            words.push(lists.least[i] & amount | 2 << 30);
+        }
+        if !left_out(lists.most[i], NO_UPPER_END) {
+            words.push(lists.most[i] & amount | 2 << 30 | 1 << 29);
+        }
+    }
+    words.push(3 << 30 | lists.count() as u32);
     words.iter().flat_map(|word| word.to_le_bytes()).collect()
 }
 
 /// Words whose kinds are mostly those that the place wants.
 fn likely_words(random: &mut Random) -> Vec<u8> {
-    let count = random.up_to(9) as u32;
+    let count = random.up_to(9);
     let mut words = Vec::new();
     for place in 0..count {
-        let wanted = if place < 3 { 0 } else { 1 };
-        let kind = if random.one_in(8) { random.up_to_u32(3) } else { wanted };
-        words.push(kind << 30 | random.up_to_u32(9));
+        let kind = match place {
+            _ if random.one_in(8) => random.up_to_u32(3),
+            0..=2 => 0,
+            _ => 1 + u32::from(random.one_in(2)),
+        };
+        let most = u32::from(kind == 2 && random.one_in(2)) << 29;
+        words.push(kind << 30 | most | random.up_to_u32(9));
     }
     if random.one_in(2) {
-        words.push(3 << 30 | count.saturating_sub(3).saturating_add(random.up_to_u32(1)));
+        let harvests = words.iter().filter(|&word| word >> 30 == 1).count() as u32;
+        words.push(3 << 30 | harvests.saturating_add(random.up_to_u32(8) / 8));
     }
     words.iter().flat_map(|word| word.to_le_bytes()).collect()
 }
 
-/// A file near the largest size; seldom, since it takes long to compare.
+/// A file near the largest size, or of more frames than there may be; seldom, since it takes long to compare.
 fn sized_file(random: &mut Random) -> Vec<u8> {
     if !random.one_in(20) {
         return well_formed(1, random);
     }
-    let mut bytes = well_formed(MAX_FRAMES - random.up_to(1) as usize, random);
-    bytes.truncate(MAX_FILE_BYTES);
+    if random.one_in(3) {
+        let frames = MAX_FRAMES + random.up_to(MAX_FILE_BYTES as u64 / 4) as usize;
+        return form(Figures::default(), &Lists::unbounded(vec![1; frames]), |_, _| true);
+    }
+    let (figures, lists) = request(MAX_FRAMES - random.up_to(1) as usize, random);
+    let mut bytes = form(figures, &lists, |_, _| false);
     match random.up_to(3) {
         0 => bytes.resize(MAX_FILE_BYTES + random.up_to(5) as usize, 0),
         1 => bytes.truncate(MAX_FILE_BYTES - random.up_to(5) as usize),
@@ -342,27 +457,26 @@ fn room(needed: usize, random: &mut Random) -> usize {
 
 /// Planning calls: a plan, a needed capacity.
 fn planning(random: &mut Random) -> Case {
-    let harvest = harvest(frames(random), random);
-    let figures = figures(&harvest, random);
+    let (figures, mut lists) = request(frames(random), random);
+    lend(&mut lists, random);
     if random.one_in(4) {
-        return Case::Needed { figures, harvest };
+        return Case::Needed { figures, lists };
     }
     Case::Plan {
         figures,
-        budgets: length(harvest.len(), random),
-        harvest,
+        budgets: length(lists.count(), random),
+        lists,
     }
 }
 
 /// A request for calls that take no planning, at the limit of the frames more often.
-fn plain_request(random: &mut Random) -> (Figures, Vec<u32>) {
+fn plain_request(random: &mut Random) -> (Figures, Lists) {
     let frames = if random.one_in(20) {
         MAX_FRAMES + random.up_to(1) as usize
     } else {
         frames(random)
     };
-    let harvest = harvest(frames, random);
-    (figures(&harvest, random), harvest)
+    request(frames, random)
 }
 
 /// Tracing any budgets.
@@ -378,25 +492,32 @@ fn trace(figures: Figures, harvest: Vec<u32>, random: &mut Random) -> Case {
 
 /// Calls that take no planning: tracing, grading, writing.
 fn plain(random: &mut Random) -> Case {
-    let (figures, harvest) = plain_request(random);
+    let (figures, lists) = plain_request(random);
     match random.up_to(4) {
-        0 | 1 => trace(figures, harvest, random),
+        0 | 1 => trace(figures, lists.harvest, random),
         2 => Case::Grade {
-            budgets: budgets(figures, &harvest, random),
+            budgets: budgets(figures, &lists.harvest, random),
         },
-        _ => Case::Write {
-            room: room(file_bytes(harvest.len()), random),
-            figures,
-            harvest,
-        },
+        _ => write(figures, lists, random),
     }
 }
 
-/// Reading a file.
+/// Writing a file.
+fn write(figures: Figures, mut lists: Lists, random: &mut Random) -> Case {
+    let room = room(file_bytes(lists.frames()), random);
+    lend(&mut lists, random);
+    Case::Write { figures, lists, room }
+}
+
+/// Reading a file into lists that have room, now and then one of them too little.
 fn read(random: &mut Random) -> Case {
     let file = file(random);
-    let room = room((file.len() / 4).saturating_sub(4), random);
-    Case::Read { file, room }
+    let harvests = file.chunks_exact(4).filter(|word| word[3] >> 6 == 1).count();
+    let mut rooms = [0; 3].map(|_| harvests + random.up_to(4).saturating_sub(2) as usize);
+    if random.one_in(6) {
+        rooms[random.up_to(2) as usize] = harvests.saturating_sub(1 + random.up_to(3) as usize);
+    }
+    Case::Read { file, rooms }
 }
 
 /// Listing a file.
@@ -426,8 +547,8 @@ pub fn any_case(random: &mut Random) -> Case {
 
 /// A trace.
 pub fn any_trace(random: &mut Random) -> Case {
-    let (figures, harvest) = plain_request(random);
-    trace(figures, harvest, random)
+    let (figures, lists) = plain_request(random);
+    trace(figures, lists.harvest, random)
 }
 
 /// A whole shift with its calls.

@@ -1,4 +1,4 @@
-//! Evidence about the energy planner from outside: an independent implementation of document 01, exhaustive search,
+//! Evidence about the energy planner from outside: an independent implementation of documents 01 and 02, exhaustive search,
 //! the algorithms that serve as baselines, and cases that can be printed and run again.
 
 pub mod algorithms;
@@ -7,6 +7,7 @@ pub mod check;
 pub mod families;
 pub mod fast;
 pub mod generate;
+pub mod lists;
 pub mod random;
 pub mod reference;
 

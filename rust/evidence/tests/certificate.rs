@@ -1,6 +1,6 @@
 //! Guess, certify, follow: its budgets against the definition of the plan, every guess by itself, and what the splitting costs.
 
-use energy::Figures;
+use energy::{Figures, Frames as Lent};
 use evidence::algorithms::certificate::frame::{Frame, Frames, Listed, Plain};
 use evidence::algorithms::certificate::search::search;
 use evidence::algorithms::certificate::sight::{draw_by_sight, first_apex, ALLOWANCE};
@@ -311,7 +311,7 @@ fn small_requests_of_document_01_against_the_definition() {
             defined(&Listed { start, end, frames }),
             "{plain:?}"
         );
-        let least = defined_needed(Store { capacity, start, end }, &harvest);
+        let least = defined_needed(Store { capacity, start, end }, Lent::unbounded(&harvest));
         assert_eq!(needed(start, end, &harvest), least, "{plain:?}");
     }
     assert_eq!(seen.guesses.split, 0, "a string was not certified");

@@ -1,10 +1,12 @@
 //! Random cases through every implementation, compared with the reference. Another seed: `ENERGY_SEED=7 rust/cargo test`.
 
-use energy::{Energy, Refusal, Rest, Verdict, LISTING_BYTES};
+use energy::{Energy, Figures, Refusal, Rest, Shift, Verdict, LISTING_BYTES};
 use evidence::cases::{Call, Case};
 use evidence::check::expect;
 use evidence::generate::{any_case, any_file_case, any_run};
+use evidence::lists::Lists;
 use evidence::random::{seed, Random};
+use evidence::reference::limits::{MAX_BOUND, MAX_FILE_BYTES, NO_UPPER_END};
 use evidence::reference::Reference;
 use evidence::under_test;
 use std::collections::BTreeSet;
@@ -35,20 +37,80 @@ fn random_mutated_and_truncated_files() {
     compare(3_000_000, 60_000, any_file_case);
 }
 
-/// What the reference answers to a case, as a word for the coverage.
-fn answer(case: &Case) -> Vec<String> {
-    let number = |refusal: Refusal| refusal.number().to_string();
+/// The number of a refusal, or `ok`.
+fn number<T>(answer: Result<T, Refusal>) -> String {
+    answer.map_or_else(|refusal| refusal.number().to_string(), |_| "ok".into())
+}
+
+/// Why the bounds of a frame are bad.
+fn cause(lists: &Lists, frame: u64) -> &'static str {
+    let (least, most) = (lists.least[frame as usize - 1], lists.most[frame as usize - 1]);
+    match (least > MAX_BOUND, most > MAX_BOUND && most != NO_UPPER_END) {
+        (true, false) => "least",
+        (false, true) => "most",
+        (true, true) => "both",
+        _ => "above",
+    }
+}
+
+/// The number of a refusal, or `ok`; 10 with its cause.
+fn bounded<T>(answer: Result<T, Refusal>, lists: &Lists) -> String {
+    match answer {
+        Err(Refusal::BadBounds { frame }) => format!("10 {}", cause(lists, frame)),
+        other => number(other),
+    }
+}
+
+/// What planning and the needed capacity of a request answer, where one of them is 11.
+fn leasts(figures: Figures, lists: &Lists) -> String {
+    let planned = Reference.plan(figures, lists.frames(), &mut vec![0; lists.count()]);
+    let needed = Reference.needed(figures, lists.frames());
+    match (planned, needed) {
+        (Err(Refusal::LeastsNotFeasible), Err(Refusal::LeastsNotFeasible)) => "of both".into(),
+        (Err(Refusal::LeastsNotFeasible), _) => "of planning alone".into(),
+        (_, Err(Refusal::LeastsNotFeasible)) => "of needed alone".into(),
+        _ => "of none".into(),
+    }
+}
+
+/// What the reference answers to a call on a record.
+fn answer_on(shift: Shift, call: &Call) -> String {
+    match call {
+        Call::Record { harvest, used } => {
+            let recorded = Reference.shift_record(shift, *harvest, *used);
+            format!("record {}", number(recorded.map_err(|not| not.refusal)))
+        }
+        Call::Rest { lists, budgets } => {
+            let rest = Reference.shift_plan_rest(shift, lists.frames(), &mut vec![0; *budgets]);
+            let word = match rest {
+                Ok(Rest::Short { missing: 0 }) => "short of nothing".into(),
+                Ok(Rest::Short { .. }) => "short".into(),
+                other => bounded(other, lists),
+            };
+            format!("rest {word}")
+        }
+        Call::Part { budgets } => {
+            let budgets = vec![0; *budgets];
+            format!("part {}", number(Reference.shift_rest_part(shift, &budgets)))
+        }
+    }
+}
+
+/// What the reference answers to a case, as words for the coverage.
+fn answers(case: &Case) -> Vec<String> {
     let kind = case.to_string().split(' ').next().unwrap_or_default().to_string();
     let answers = match case {
         Case::Plan {
             figures,
-            harvest,
+            lists,
             budgets,
-        } => vec![Reference
-            .plan(*figures, harvest, &mut vec![0; *budgets])
-            .map_or_else(number, |()| "ok".into())],
-        Case::Needed { figures, harvest } => {
-            vec![Reference.needed(*figures, harvest).map_or_else(number, |_| "ok".into())]
+        } => {
+            let planned = Reference.plan(*figures, lists.frames(), &mut vec![0; *budgets]);
+            vec![bounded(planned, lists), leasts(*figures, lists)]
+        }
+        Case::Needed { figures, lists } => {
+            let needed = Reference.needed(*figures, lists.frames());
+            vec![bounded(needed, lists), leasts(*figures, lists)]
         }
         Case::Trace {
             figures,
@@ -62,41 +124,27 @@ fn answer(case: &Case) -> Vec<String> {
                 Ok(Verdict::Feasible) => "feasible".into(),
                 Ok(Verdict::EndTooLow) => "end".into(),
                 Ok(Verdict::BelowZero { .. }) => "below".into(),
-                Err(refusal) => number(refusal),
+                refused => number(refused),
             };
             let loses = losses.iter().any(|&loss| loss > 0);
             vec![if loses { format!("{verdict} loses") } else { verdict }]
         }
-        Case::Grade { budgets } => vec![Reference.grade(budgets).map_or_else(number, |_| "ok".into())],
-        Case::Run { figures, harvest, .. } => {
-            vec![Reference
-                .shift_start(*figures, harvest)
-                .map_or_else(number, |_| "ok".into())]
+        Case::Grade { budgets } => vec![number(Reference.grade(budgets))],
+        Case::Run { figures, lists, .. } => {
+            vec![bounded(Reference.shift_start(*figures, lists.frames()), lists)]
         }
-        Case::On { shift, call } => vec![match call {
-            Call::Record { harvest, used } => Reference
-                .shift_record(*shift, *harvest, *used)
-                .map_or_else(|not| format!("record {}", number(not.refusal)), |_| "record ok".into()),
-            Call::Rest { harvest, budgets } => {
-                match Reference.shift_plan_rest(*shift, harvest, &mut vec![0; *budgets]) {
-                    Ok(Rest::Planned) => "rest ok".into(),
-                    Ok(Rest::Short { .. }) => "rest short".into(),
-                    Err(refusal) => format!("rest {}", number(refusal)),
-                }
-            }
-            Call::Part { budgets } => Reference
-                .shift_rest_part(*shift, &vec![0; *budgets])
-                .map_or_else(|refusal| format!("part {}", number(refusal)), |_| "part ok".into()),
-        }],
-        Case::Read { file, room } => {
-            vec![Reference
-                .read(file, &mut vec![0; *room])
-                .map_or_else(number, |_| "ok".into())]
+        Case::On { shift, call } => vec![answer_on(*shift, call)],
+        Case::Read { file, rooms } => {
+            let [mut harvest, mut least, mut most] = rooms.map(|room| vec![0; room]);
+            let read = Reference.read(file, &mut harvest, &mut least, &mut most);
+            let too_long = file.len() <= MAX_FILE_BYTES && read == Err(Refusal::TooLong);
+            let frames = if too_long { "2 frames".into() } else { number(read) };
+            let bounds = least.iter().any(|&least| least > 0) && most.iter().any(|&most| most != NO_UPPER_END);
+            vec![if bounds { format!("{frames} bounds") } else { frames }]
         }
-        Case::Write { figures, harvest, room } => {
-            vec![Reference
-                .write(*figures, harvest, &mut vec![0; *room])
-                .map_or_else(number, |_| "ok".into())]
+        Case::Write { figures, lists, room } => {
+            let written = Reference.write(*figures, lists.frames(), &mut vec![0; *room]);
+            vec![bounded(written, lists)]
         }
         Case::Listing { file, .. } => {
             let mut text = vec![0; LISTING_BYTES];
@@ -109,30 +157,37 @@ fn answer(case: &Case) -> Vec<String> {
     answers.into_iter().map(|answer| format!("{kind} {answer}")).collect()
 }
 
-/// The generator makes every answer that document 01 knows of.
+/// The generator makes every answer that documents 01 and 02 know of.
 #[test]
 fn every_answer_is_reached() {
     let mut seen = BTreeSet::new();
-    for number in 0..40_000 {
-        seen.extend(answer(&any_case(&mut Random::of_case(20_080_310, number))));
+    for number in 0..60_000 {
+        seen.extend(answers(&any_case(&mut Random::of_case(20_080_310, number))));
     }
     for (kind, answers) in [
-        ("plan", "ok 1 2 7 3 4 5 6 9"),
-        ("needed", "ok 1 2 3 6 9"),
-        ("trace", "feasible end below 1 2 7 3 4 5 6"),
+        ("plan", "ok,1,2,7,3,4,5,6,9,11"),
+        ("needed", "ok,1,2,7,3,6,9,11"),
+        ("trace", "feasible,end,below,1,2,7,3,4,5,6"),
         ("trace feasible", "loses"),
         ("trace end", "loses"),
         ("trace below", "loses"),
-        ("grade", "ok 1 2"),
-        ("run", "ok 1 3 4 5 6 9"),
-        ("on record", "ok 22 20 6 21"),
-        ("on rest", "ok short 22 7 20 6"),
-        ("on part", "ok 22 7 20"),
-        ("read", "ok 2 8 7"),
-        ("write", "ok 1 2 7 3 4 5 6"),
-        ("listing", "ok 1 2 8 3 4 5 6 9"),
+        ("grade", "ok,1,2"),
+        ("run", "ok,1,7,3,4,5,6,9,11"),
+        ("on record", "ok,22,20,6,21"),
+        ("on rest", "ok,short,short of nothing,22,7,20,6"),
+        ("on part", "ok,22,7,20"),
+        ("read", "ok,ok bounds,2,2 frames,8,7"),
+        ("write", "ok,1,2,7,3,4,5,6"),
+        ("listing", "ok,1,2,8,3,4,5,6,9,10,11"),
+        ("plan of", "both,planning alone,needed alone,none"),
+        ("needed of", "both,planning alone,needed alone,none"),
+        ("plan 10", "least,most,both,above"),
+        ("needed 10", "least,most,both,above"),
+        ("run 10", "least,most,both,above"),
+        ("on rest 10", "least,most,both,above"),
+        ("write 10", "least,most,both,above"),
     ] {
-        for answer in answers.split(' ') {
+        for answer in answers.split(',') {
             let wanted = format!("{kind} {answer}");
             assert!(seen.contains(&wanted), "no case with: {wanted}");
         }

@@ -3,7 +3,8 @@
 use energy::{Energy, Figures, Present, Refusal, Shift, Terms, Totals, Verdict, LISTING_BYTES};
 use evidence::cases::{Call, Case};
 use evidence::check::expect;
-use evidence::reference::limits::{MAX_CAPACITY, MAX_FILE_BYTES, MAX_FRAMES, MAX_HARVEST};
+use evidence::lists::Lists;
+use evidence::reference::limits::{MAX_BOUND, MAX_CAPACITY, MAX_FILE_BYTES, MAX_FRAMES, MAX_HARVEST, NO_UPPER_END};
 use evidence::reference::wordfile::file_bytes;
 use evidence::reference::Reference;
 use evidence::{under_test, with_reference};
@@ -25,21 +26,88 @@ fn the_bindings_limits_are_the_references() {
     assert_eq!(energy::MAX_FILE_BYTES, MAX_FILE_BYTES);
     assert_eq!(energy::MAX_HARVEST, MAX_HARVEST);
     assert_eq!(energy::MAX_CAPACITY, MAX_CAPACITY);
+    assert_eq!(energy::MAX_BOUND, MAX_BOUND);
+    assert_eq!(energy::NO_UPPER_END, NO_UPPER_END);
     assert_eq!(
-        file_bytes(MAX_FRAMES),
+        file_bytes(bounded(vec![0; MAX_FRAMES]).frames()),
         MAX_FILE_BYTES,
-        "the longest file is that of the most frames"
+        "the longest file is that of the most frames, each with its least and most"
     );
+}
+
+/// Frames that all have a least and a most.
+fn bounded(harvest: Vec<u32>) -> Lists {
+    Lists {
+        least: vec![1; harvest.len()],
+        most: vec![MAX_BOUND; harvest.len()],
+        harvest,
+    }
+}
+
+/// The calls of a request that are lent its bounds, each with lists of these lengths but the file's room.
+fn compare_all(figures: Figures, lists: &Lists) {
+    let (count, lists) = (lists.count(), lists.clone());
+    let calls = vec![
+        Call::Record { harvest: 5, used: 8 },
+        Call::Rest {
+            lists: lists.clone(),
+            budgets: count,
+        },
+        Call::Part { budgets: count },
+    ];
+    for case in [
+        Case::Plan {
+            figures,
+            lists: lists.clone(),
+            budgets: count,
+        },
+        Case::Needed {
+            figures,
+            lists: lists.clone(),
+        },
+        Case::Write {
+            figures,
+            lists: lists.clone(),
+            room: MAX_FILE_BYTES,
+        },
+        Case::Run { figures, lists, calls },
+    ] {
+        compare(case);
+    }
 }
 
 #[test]
 fn harvests_around_the_limit() {
     for harvest in [vec![MAX_HARVEST], vec![0, MAX_HARVEST + 1, u32::MAX], vec![u32::MAX; 3]] {
-        compare(Case::Plan {
-            figures: figures(9, 0, 0),
-            budgets: harvest.len(),
-            harvest,
-        });
+        compare_all(figures(9, 0, 0), &Lists::unbounded(harvest));
+    }
+}
+
+#[test]
+fn bounds_around_the_limit() {
+    let rich = figures(MAX_CAPACITY, MAX_CAPACITY, 0);
+    let numbers = [
+        0,
+        1,
+        MAX_BOUND - 1,
+        MAX_BOUND,
+        MAX_BOUND + 1,
+        1 << 30,
+        NO_UPPER_END - 1,
+        NO_UPPER_END,
+    ];
+    for least in numbers {
+        for most in numbers {
+            for figures in [rich, figures(9, 3, 3)] {
+                let mut lists = Lists::unbounded(vec![5, 7, 6]);
+                lists.least[1] = least;
+                lists.most[1] = most;
+                compare_all(figures, &lists);
+                lists.least[0] = most;
+                lists.most[2] = least;
+                compare_all(figures, &lists);
+            }
+        }
     }
 }
 
@@ -48,18 +116,11 @@ fn frames_around_the_limit() {
     for count in [0, 1, MAX_FRAMES, MAX_FRAMES + 1, 4 * MAX_FRAMES] {
         let harvest = vec![7; count];
         let figures = figures(9, 3, 3);
-        compare(Case::Plan {
-            figures,
-            harvest: harvest.clone(),
-            budgets: count,
-        });
-        compare(Case::Needed {
-            figures,
-            harvest: harvest.clone(),
-        });
+        compare_all(figures, &Lists::unbounded(harvest.clone()));
+        compare_all(figures, &bounded(harvest.clone()));
         compare(Case::Trace {
             figures,
-            harvest: harvest.clone(),
+            harvest,
             budgets: vec![u32::MAX; count],
             charges: count,
             losses: count,
@@ -67,23 +128,78 @@ fn frames_around_the_limit() {
         compare(Case::Grade {
             budgets: vec![u32::MAX; count],
         });
-        compare(Case::Write {
-            figures,
-            harvest: harvest.clone(),
-            room: file_bytes(count),
-        });
-        compare(Case::Run {
-            figures,
-            harvest: harvest.clone(),
-            calls: vec![
-                Call::Record { harvest: 5, used: 8 },
-                Call::Rest {
-                    harvest,
-                    budgets: count,
-                },
-                Call::Part { budgets: count },
-            ],
-        });
+    }
+}
+
+/// 7 for each list by itself, one too short and one too long, also where the frames or the figures are refused.
+#[test]
+fn each_list_of_a_request_has_an_entry_for_each_frame() {
+    for count in [0, 1, 3, MAX_FRAMES, MAX_FRAMES + 1] {
+        for capacity in [9, MAX_CAPACITY + 1] {
+            for other in [0, 1, 2, count.saturating_sub(1), count, count + 1] {
+                let figures = figures(capacity, 3, 3);
+                let mut lists = Lists::unbounded(vec![7; count]);
+                lists.least.resize(other, 0);
+                compare_all(figures, &lists);
+                let mut lists = Lists::unbounded(vec![7; count]);
+                lists.most.resize(other, NO_UPPER_END);
+                compare_all(figures, &lists);
+            }
+        }
+    }
+}
+
+/// The same for the rest of a shift: each of its lists by itself, before 20 and what the lists hold.
+#[test]
+fn each_list_of_a_rest_has_an_entry_for_each_frame() {
+    let terms = Terms {
+        frames: 3,
+        capacity: 9,
+        start: 3,
+        end: 3,
+    };
+    for recorded in [0, 3] {
+        let now = Present {
+            recorded,
+            charge: 3,
+            ..Present::default()
+        };
+        for place in 0..4 {
+            for length in [0, 2, 3, 4] {
+                let mut lengths = [3; 4];
+                lengths[place] = length;
+                let [harvest, least, most, budgets] = lengths;
+                let lists = Lists {
+                    harvest: vec![7; harvest],
+                    least: vec![2; least],
+                    most: vec![1; most],
+                };
+                compare(Case::On {
+                    shift: Shift { terms, now },
+                    call: Call::Rest { lists, budgets },
+                });
+            }
+        }
+    }
+}
+
+/// 7 before every figure: the room is that of the words of the lists as they are lent, bad bounds too.
+#[test]
+fn the_room_of_a_file_is_that_of_its_words() {
+    for (least, most) in [(0, NO_UPPER_END), (1, NO_UPPER_END), (0, 0), (1, 1), (NO_UPPER_END, 0)] {
+        for capacity in [9, MAX_CAPACITY + 1] {
+            let mut lists = Lists::unbounded(vec![7; 3]);
+            lists.least[1] = least;
+            lists.most[2] = most;
+            let enough = file_bytes(lists.frames());
+            for room in [0, 1, enough - 4, enough - 1, enough, enough + 1] {
+                compare(Case::Write {
+                    figures: figures(capacity, 3, 3),
+                    lists: lists.clone(),
+                    room,
+                });
+            }
+        }
     }
 }
 
@@ -103,7 +219,7 @@ fn records_around_the_limit() {
         for call in [
             Call::Record { harvest: 5, used: 8 },
             Call::Rest {
-                harvest: vec![7; frames],
+                lists: bounded(vec![7; frames]),
                 budgets: frames,
             },
             Call::Part { budgets: frames },
@@ -139,20 +255,8 @@ fn the_figures_at_their_limits() {
             vec![0, MAX_HARVEST + 1],
         ] {
             let figures = figures(capacity, start, end);
-            compare(Case::Plan {
-                figures,
-                harvest: harvest.clone(),
-                budgets: harvest.len(),
-            });
-            compare(Case::Needed {
-                figures,
-                harvest: harvest.clone(),
-            });
-            compare(Case::Write {
-                figures,
-                room: file_bytes(harvest.len()),
-                harvest,
-            });
+            compare_all(figures, &Lists::unbounded(harvest.clone()));
+            compare_all(figures, &bounded(harvest));
         }
     }
 }
@@ -162,11 +266,12 @@ fn the_needed_capacity_may_exceed_the_limit_on_capacities() {
     let mut harvest = vec![MAX_HARVEST; MAX_FRAMES / 2];
     harvest.resize(MAX_FRAMES, 0);
     let figures = figures(0, MAX_CAPACITY, MAX_CAPACITY);
+    let lists = Lists::unbounded(harvest);
     for energy in under_test() {
-        let needed = energy.needed(figures, &harvest).expect("a valid request");
+        let needed = energy.needed(figures, lists.frames()).expect("a valid request");
         assert!(needed > u64::from(MAX_CAPACITY), "{}: {needed}", energy.name());
     }
-    compare(Case::Needed { figures, harvest });
+    compare(Case::Needed { figures, lists });
 }
 
 #[test]
@@ -219,21 +324,84 @@ fn each_list_of_a_trace_has_an_entry_for_each_frame() {
     }
 }
 
+/// A file whose frames have these words, so many times, cut or filled up to so many bytes.
+fn sized(frame: &[u32], frames: usize, bytes: usize) -> Vec<u8> {
+    let mut words = vec![0, 0, 0];
+    (0..frames).for_each(|_| words.extend(frame));
+    words.push(3 << 30 | frames as u32);
+    let mut file: Vec<u8> = words.iter().flat_map(|word| word.to_le_bytes()).collect();
+    file.resize(bytes, 0);
+    file
+}
+
 #[test]
 fn files_around_the_largest_size() {
+    let bounded = [1 << 30 | 7, 2 << 30 | 3, 5 << 29 | 9];
     for bytes in MAX_FILE_BYTES - 5..=MAX_FILE_BYTES + 5 {
-        let mut file: Vec<u8> = [0, 0, 0].iter().flat_map(|word: &u32| word.to_le_bytes()).collect();
-        while file.len() + 4 < bytes {
-            file.extend((1_u32 << 30 | 7).to_le_bytes());
+        for words in 1..=3 {
+            let frames = (bytes / 4 - 4) / words;
+            let file = sized(&bounded[..words], frames, bytes);
+            for room in [frames - 1, frames, MAX_FRAMES - 1, MAX_FRAMES, MAX_FRAMES + 9] {
+                compare(Case::Read {
+                    file: file.clone(),
+                    rooms: [room; 3],
+                });
+            }
         }
-        let count = (file.len() / 4 - 3) as u32;
-        file.extend((3_u32 << 30 | count).to_le_bytes());
-        file.resize(bytes, 0);
-        for room in [MAX_FRAMES - 1, MAX_FRAMES, MAX_FRAMES + 9] {
-            compare(Case::Read {
-                file: file.clone(),
-                room,
-            });
+    }
+}
+
+/// More frames than there may be fit into a file: 2 behind 8, and before 7.
+#[test]
+fn files_of_too_many_frames() {
+    for energy in with_reference() {
+        let frames = |frames: usize, bytes: usize| {
+            let file = sized(&[1 << 30 | 7], frames, bytes);
+            let [mut harvest, mut least, mut most] = [[0; MAX_FRAMES]; 3];
+            energy
+                .read(&file, &mut harvest, &mut least, &mut most)
+                .map(|header| header.frames)
+        };
+        assert_eq!(frames(672, 2_704), Ok(672), "{}", energy.name());
+        assert_eq!(frames(673, 2_708), Err(Refusal::TooLong), "{}", energy.name());
+        assert_eq!(
+            frames(673, 2_707),
+            Err(Refusal::Malformed { word: 676 }),
+            "{}",
+            energy.name()
+        );
+        assert_eq!(
+            frames(673, 2_709),
+            Err(Refusal::Malformed { word: 677 }),
+            "{}",
+            energy.name()
+        );
+        assert_eq!(frames(2_016, 8_080), Err(Refusal::TooLong), "{}", energy.name());
+    }
+    for rooms in [[0; 3], [673; 3], [672, 673, 9]] {
+        let file = sized(&[1 << 30 | 7], 673, 2_708);
+        compare(Case::Read { file, rooms });
+    }
+}
+
+/// Each list of the reader may be longer, and none shorter, than the file has frames; its surplus is kept.
+#[test]
+fn each_list_of_the_reader_has_room() {
+    for frame in [
+        &[1 << 30 | 7][..],
+        &[1 << 30, 2 << 30 | 3],
+        &[1 << 30, 2 << 30, 5 << 29],
+    ] {
+        let file = sized(frame, 2, 16 + 8 * frame.len());
+        for place in 0..3 {
+            for length in [0, 1, 2, 3, 9] {
+                let mut rooms = [2; 3];
+                rooms[place] = length;
+                compare(Case::Read {
+                    file: file.clone(),
+                    rooms,
+                });
+            }
         }
     }
 }
@@ -255,8 +423,9 @@ fn listings_of_the_most_frames_have_room() {
     let most = MAX_CAPACITY;
     for (start, end) in [(most, most), (most, 0), (0, most)] {
         let mut file = vec![0; MAX_FILE_BYTES];
-        let written = Reference.write(figures(most, start, end), &[MAX_HARVEST; MAX_FRAMES], &mut file);
-        assert_eq!(written, Ok(MAX_FILE_BYTES));
+        let lists = Lists::unbounded(vec![MAX_HARVEST; MAX_FRAMES]);
+        let written = Reference.write(figures(most, start, end), lists.frames(), &mut file);
+        file.truncate(written.expect("a valid request"));
         for energy in under_test() {
             let bytes = energy.listing(&file, &mut vec![0; 2 * LISTING_BYTES]);
             assert!(bytes <= LISTING_BYTES, "{}: {bytes}", energy.name());
@@ -271,14 +440,24 @@ fn listings_of_the_most_frames_have_room() {
 #[test]
 fn short_and_torn_files() {
     let mut file: Vec<u8> = Vec::new();
-    for word in [9, 0, 0, 0x4000_0001, 0x4000_0002, 0xc000_0002, 0xc000_0002_u32] {
+    for word in [
+        9,
+        0,
+        0,
+        0x4000_0001,
+        0x8000_0001,
+        0x4000_0002,
+        0xa000_0003,
+        0xc000_0002,
+        0xc000_0002_u32,
+    ] {
         file.extend(word.to_le_bytes());
     }
     for bytes in 0..=file.len() {
         for room in [0, 1, 2, 9] {
             compare(Case::Read {
                 file: file[..bytes].to_vec(),
-                room,
+                rooms: [room; 3],
             });
         }
     }
@@ -288,12 +467,12 @@ fn short_and_torn_files() {
         .collect();
     for energy in under_test() {
         assert_eq!(
-            energy.read(&empty, &mut []).map(|read| read.frames),
+            energy.read(&empty, &mut [], &mut [], &mut []).map(|read| read.frames),
             Ok(0),
             "{}",
             energy.name()
         );
-        let refusal = energy.read(&[0; 12], &mut []).map(|read| read.frames);
+        let refusal = energy.read(&[0; 12], &mut [], &mut [], &mut []).map(|read| read.frames);
         assert_eq!(refusal, Err(Refusal::Malformed { word: 3 }), "{}", energy.name());
     }
 }
@@ -314,7 +493,7 @@ fn records_with_totals_near_the_largest_number() {
     let calls = [
         Call::Record { harvest: 3, used: 2 },
         Call::Rest {
-            harvest: vec![1, 2, 3],
+            lists: Lists::unbounded(vec![1, 2, 3]),
             budgets: 3,
         },
         Call::Part { budgets: 3 },

@@ -1,6 +1,6 @@
 //! The plan against the source's Algorithm 2, which yields fractions: every budget is within one unit of them.
 
-use energy::Figures;
+use energy::{Figures, Frames};
 use evidence::algorithms::source::recursive_decomposition;
 use evidence::families::{request, FAMILIES, FRAMES, SIZES};
 use evidence::random::{seed, Random};
@@ -21,7 +21,8 @@ fn compare(figures: Figures, harvest: &[u32]) {
     let all: u64 = harvest.iter().map(|&h| u64::from(h)).sum();
     for energy in under_test() {
         let mut budgets = vec![0; harvest.len()];
-        energy.plan(figures, harvest, &mut budgets).expect("a valid request");
+        let frames = Frames::unbounded(harvest);
+        energy.plan(figures, frames, &mut budgets).expect("a valid request");
         let near = budgets
             .iter()
             .zip(&source)

@@ -1,7 +1,8 @@
-//! Document 01's cases worked by hand, its limits and losses as document 02 has them, through every implementation.
+//! Document 01's cases worked by hand, its limits and losses as document 02 has them, through every implementation. Those
+//! of bounds: `bounds.rs`.
 
-use energy::{Energy, Figures, Present, Refusal, Rest, Shift, Terms, Totals, Verdict, LISTING_BYTES};
-use evidence::reference::limits::MAX_FILE_BYTES;
+use energy::{Energy, Figures, Frames, Present, Refusal, Rest, Shift, Terms, Totals, Verdict, LISTING_BYTES};
+use evidence::reference::limits::{MAX_FILE_BYTES, NO_UPPER_END};
 use evidence::with_reference;
 
 /// The harvests of the listing.
@@ -19,7 +20,8 @@ fn figures(capacity: u32, start: u32, end: u32) -> Figures {
 /// The plan of a request, or its refusal.
 fn plan(energy: &dyn Energy, figures: Figures, harvest: &[u32]) -> Result<Vec<u32>, Refusal> {
     let mut budgets = vec![0; harvest.len()];
-    energy.plan(figures, harvest, &mut budgets).map(|()| budgets)
+    let frames = Frames::unbounded(harvest);
+    energy.plan(figures, frames, &mut budgets).map(|()| budgets)
 }
 
 /// The words of a file as 32-bit numbers.
@@ -52,7 +54,9 @@ fn plans() {
 #[test]
 fn needed_capacities() {
     for energy in with_reference() {
-        let needed = |capacity, start, end, harvest: &[u32]| energy.needed(figures(capacity, start, end), harvest);
+        let needed = |capacity, start, end, harvest: &[u32]| {
+            energy.needed(figures(capacity, start, end), Frames::unbounded(harvest))
+        };
         assert_eq!(needed(5, 2, 2, &LISTING), Ok(6), "{}", energy.name());
         assert_eq!(needed(9, 0, 0, &[1, 2]), Ok(0), "{}", energy.name());
         assert_eq!(needed(10, 10, 0, &[0]), Ok(10), "{}", energy.name());
@@ -95,7 +99,9 @@ fn a_store_that_was_below_zero_keeps_no_more_than_its_capacity() {
 #[test]
 fn recordings() {
     for energy in with_reference() {
-        let shift = energy.shift_start(figures(5, 4, 0), &[0]).expect("a valid request");
+        let shift = energy
+            .shift_start(figures(5, 4, 0), Frames::unbounded(&[0]))
+            .expect("a valid request");
         let record = |used| {
             energy
                 .shift_record(shift, 3, used)
@@ -116,7 +122,8 @@ fn recordings() {
 #[test]
 fn the_rest_after_a_recording() {
     for energy in with_reference() {
-        let shift = energy.shift_start(figures(5, 2, 2), &LISTING).expect("a valid request");
+        let frames = Frames::unbounded(&LISTING);
+        let shift = energy.shift_start(figures(5, 2, 2), frames).expect("a valid request");
         let shift = energy.shift_record(shift, 1, 3).expect("a frame to record");
         let expected = Shift {
             terms: Terms {
@@ -138,7 +145,7 @@ fn the_rest_after_a_recording() {
         assert_eq!(shift, expected, "{}", energy.name());
         let mut budgets = [4, 3, 3, 2, 4, 4];
         assert_eq!(
-            energy.shift_plan_rest(shift, &LISTING, &mut budgets),
+            energy.shift_plan_rest(shift, frames, &mut budgets),
             Ok(Rest::Planned),
             "{}",
             energy.name()
@@ -158,7 +165,7 @@ fn words_of_a_file() {
     for energy in with_reference() {
         let mut file = [0xee; 28];
         assert_eq!(
-            energy.write(figures(9, 0, 0), &[1, 2], &mut file),
+            energy.write(figures(9, 0, 0), Frames::unbounded(&[1, 2]), &mut file),
             Ok(24),
             "{}",
             energy.name()
@@ -173,7 +180,7 @@ fn the_listing() {
     for energy in with_reference() {
         let mut file = [0; 40];
         assert_eq!(
-            energy.write(figures(5, 2, 2), &LISTING, &mut file),
+            energy.write(figures(5, 2, 2), Frames::unbounded(&LISTING), &mut file),
             Ok(40),
             "{}",
             energy.name()
@@ -201,12 +208,24 @@ fn the_limits() {
         assert_eq!(plan(&[1; 672]), Ok(672), "{}", energy.name());
         assert_eq!(plan(&[1; 673]), Err(Refusal::TooLong), "{}", energy.name());
 
-        let mut file = [0; 2_705];
-        let written = energy.write(figures(9, 0, 0), &[1; 672], &mut file);
-        assert_eq!(written, Ok(2_704), "{}", energy.name());
-        let read = |bytes: usize| energy.read(&file[..bytes], &mut [0; 672]).map(|header| header.frames);
-        assert_eq!(read(2_704), Ok(672), "{}", energy.name());
-        assert_eq!(read(2_705), Err(Refusal::TooLong), "{}", energy.name());
+        let mut file = [0; 8_081];
+        let bounded = Frames {
+            harvest: &[1; 672],
+            least: &[1; 672],
+            most: &[NO_UPPER_END - 1; 672],
+        };
+        let written = energy.write(figures(9, 0, 0), bounded, &mut file);
+        assert_eq!(written, Err(Refusal::BadBounds { frame: 1 }), "{}", energy.name());
+        let most = &[536_870_911; 672];
+        let written = energy.write(figures(9, 0, 0), Frames { most, ..bounded }, &mut file);
+        assert_eq!(written, Ok(8_080), "{}", energy.name());
+        let read = |bytes: usize| {
+            let [mut harvest, mut least, mut most] = [[0; 672]; 3];
+            let header = energy.read(&file[..bytes], &mut harvest, &mut least, &mut most);
+            header.map(|header| header.frames)
+        };
+        assert_eq!(read(8_080), Ok(672), "{}", energy.name());
+        assert_eq!(read(8_081), Err(Refusal::TooLong), "{}", energy.name());
 
         let recorded = |frames: u32| match energy.shift_record(unrecorded(frames), 1, 1) {
             Ok(shift) => Ok(shift.now.recorded),

@@ -5,7 +5,8 @@ use crate::request::{whole_number, RequestArguments};
 use clap::{Args, Parser, Subcommand};
 
 /// Plans the energy of a solar-powered blending room: one list of budgets, a number of watt-hours for each frame,
-/// that is feasible and best for every concave, never falling reward curve at once.
+/// that is feasible, within the least and the most of each frame, and best for every concave, never falling reward
+/// curve at once.
 #[derive(Parser, Debug)]
 #[command(name = "gomzhiva", version, after_help = HELP)]
 pub struct Cli {
@@ -24,9 +25,15 @@ A request as text:
   harvest          # from here on a line for each frame
   6
   4
-A table may have further columns: frame, time, charge, use, loss, budget. Between its cells stand blanks, or tabs,
-commas or semicolons as a spreadsheet saves them; numbers are whole, without a thousands separator. A table alone is
-read with --capacity, --start and --end. As a file, - is standard input or output.
+A table may have further columns: least and most, the bounds of a frame's budget; and frame, time, charge, use, loss,
+budget. Between its cells stand blanks, or tabs, commas or semicolons as a spreadsheet saves them; numbers are whole,
+without a thousands separator. A table alone is read with --capacity, --start and --end. As a file, - is standard input
+or output.
+
+A table with bounds, where - is none, as is an empty cell between tabs, commas or semicolons:
+  harvest  least  most
+  6        -      3        # at most 3 Wh in this frame
+  4        2      -        # at least 2 Wh in this one
 
 Exit status: 0 done; 1 a numbered refusal; 2 bad usage, or a text that is no request or journal; 3 reading or
 writing failed. An output file is written whole or not at all.";
@@ -41,13 +48,14 @@ Example:
 pub enum Command {
     /// Print the plan of a request: the budget of each frame, the charge after it and what the frame loses
     Plan(PlanArguments),
-    /// Print the least capacity that serves every curve as unlimited storage would, whatever the request's capacity
+    /// Print the smallest capacity that serves every curve as unlimited storage would, whatever the request's capacity
     #[command(after_help = "Example:\n  gomzhiva needed examples/day.txt")]
     Needed {
         #[command(flatten)]
         request: RequestArguments,
     },
-    /// Print the charges that supplied budgets lead to, what each frame loses, and whether the budgets are feasible
+    /// Print the charges that supplied budgets lead to, what each frame loses, and whether the budgets are feasible and
+    /// within the bounds
     Trace(TraceArguments),
     /// Print what budgets earn by the three house curves
     #[command(after_help = "Example:\n  echo 4 3 3 2 4 4 | gomzhiva grade -")]
@@ -135,7 +143,7 @@ pub struct JournalArguments {
 
 #[derive(Subcommand, Debug)]
 pub enum ShiftCommand {
-    /// Start a shift from a request, whose harvest is the forecast, in a new journal
+    /// Start a shift from a request, whose harvest is the forecast and whose bounds stay, in a new journal
     #[command(after_help = "Example:\n  gomzhiva shift start examples/day.txt --journal shift.journal")]
     Start {
         #[command(flatten)]
@@ -158,7 +166,7 @@ pub enum ShiftCommand {
         #[command(flatten)]
         journal: JournalArguments,
     },
-    /// Print the plan of the frames not yet recorded
+    /// Print the plan of the frames not yet recorded, within their bounds
     #[command(after_help = "Example:\n  gomzhiva shift plan --journal shift.journal")]
     Plan {
         #[command(flatten)]

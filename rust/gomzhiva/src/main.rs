@@ -1,5 +1,5 @@
-//! The blending-room energy planner for people. Every number that it shows comes from the proved library, save sums,
-//! means and maxima of what it shows.
+//! The blending-room energy planner for people. Every number that it shows comes from the proved library, save what it was
+//! given, and sums, means, maxima and counts of what it shows. Its own word is only where supplied budgets leave their bounds.
 
 mod chart;
 mod cli;

@@ -1,10 +1,15 @@
 //! Tables for people and for spreadsheets.
 
+use crate::request::{Bound, FrameLists, NO_BOUND};
 use std::fmt::Write;
+use std::iter::once;
 
-/// Columns with their names, one number of each for each row.
+/// A cell of a table: a number, or none.
+pub type Cell = Option<i64>;
+
+/// Columns with their names, one cell of each for each row.
 pub struct Table<'a> {
-    pub columns: Vec<(&'a str, Vec<i64>)>,
+    pub columns: Vec<(&'a str, Vec<Cell>)>,
 }
 
 impl Table<'_> {
@@ -12,56 +17,57 @@ impl Table<'_> {
         self.columns[0].1.len()
     }
 
-    /// Aligned to the right, two blanks between columns.
+    /// Aligned to the right, two blanks between columns; a cell without a number has a dash.
     pub fn aligned(&self) -> String {
-        let width = |(name, list): &(&str, Vec<i64>)| {
-            list.iter()
-                .map(|n| n.to_string().len())
-                .max()
-                .unwrap_or(0)
-                .max(name.len())
-        };
-        let widths: Vec<usize> = self.columns.iter().map(width).collect();
+        let lines = self.lines(NO_BOUND);
+        let width = |column: usize| lines.iter().map(|cells| cells[column].len()).max().unwrap_or(0);
+        let widths: Vec<usize> = (0..self.columns.len()).map(width).collect();
         let mut text = String::new();
-        let mut put_line = |cells: Vec<String>| {
+        for cells in &lines {
             let cells: Vec<String> = cells
                 .iter()
                 .zip(&widths)
                 .map(|(cell, width)| format!("{cell:>width$}"))
                 .collect();
             let _ = writeln!(text, "{}", cells.join("  "));
-        };
-        put_line(self.names());
-        (0..self.rows()).for_each(|row| put_line(self.row(row)));
-        text
-    }
-
-    /// With commas, and a line of names.
-    pub fn csv(&self) -> String {
-        let mut text = self.names().join(",") + "\n";
-        for row in 0..self.rows() {
-            text += &(self.row(row).join(",") + "\n");
         }
         text
     }
 
-    fn names(&self) -> Vec<String> {
-        self.columns.iter().map(|(name, _)| name.to_string()).collect()
+    /// With commas, and a line of names; a cell without a number is empty.
+    pub fn csv(&self) -> String {
+        let lines = self.lines("");
+        lines.iter().map(|cells| cells.join(",") + "\n").collect()
     }
 
-    fn row(&self, row: usize) -> Vec<String> {
-        self.columns.iter().map(|(_, list)| list[row].to_string()).collect()
+    /// The names, then the cells of each row, with this for those without a number.
+    fn lines(&self, none: &str) -> Vec<Vec<String>> {
+        let names = self.columns.iter().map(|(name, _)| name.to_string()).collect();
+        let cell = |cell: Cell| cell.map_or(none.to_string(), |number| number.to_string());
+        let row = |row: usize| self.columns.iter().map(|(_, list)| cell(list[row])).collect();
+        once(names).chain((0..self.rows()).map(row)).collect()
     }
 }
 
 /// The numbers of consecutive frames, from the one after `before`.
-pub fn frames(before: u32, count: usize) -> Vec<i64> {
-    (1..=count as i64).map(|frame| i64::from(before) + frame).collect()
+pub fn frames(before: u32, count: usize) -> Vec<Cell> {
+    (1..=count as i64)
+        .map(|frame| Some(i64::from(before) + frame))
+        .collect()
 }
 
 /// A list of the library's as a table's column.
-pub fn column(list: &[u32]) -> Vec<i64> {
-    list.iter().map(|&n| n.into()).collect()
+pub fn column<N: Copy + Into<i64>>(list: &[N]) -> Vec<Cell> {
+    list.iter().map(|&number| Some(number.into())).collect()
+}
+
+/// The bounds that some frame has as columns with their names.
+pub fn bound_columns(frames: &FrameLists) -> Vec<(&'static str, Vec<Cell>)> {
+    let column = |bound: Bound| {
+        let cells = frames.list(bound).iter().map(|&listed| bound.given(listed));
+        (bound.name(), cells.map(|cell| cell.map(i64::from)).collect())
+    };
+    frames.bounds().into_iter().map(column).collect()
 }
 
 /// The sum of a list.
@@ -112,13 +118,17 @@ mod tests {
     #[test]
     fn tables_are_aligned_and_csv_is_plain() {
         let table = Table {
-            columns: vec![("frame", frames(0, 2)), ("charge", vec![-10_000_000, 3])],
+            columns: vec![
+                ("frame", frames(0, 2)),
+                ("charge", column(&[-10_000_000_i64, 3])),
+                ("most", vec![None, Some(5)]),
+            ],
         };
         assert_eq!(
             table.aligned(),
-            "frame     charge\n    1  -10000000\n    2          3\n"
+            "frame     charge  most\n    1  -10000000     -\n    2          3     5\n"
         );
-        assert_eq!(table.csv(), "frame,charge\n1,-10000000\n2,3\n");
+        assert_eq!(table.csv(), "frame,charge,most\n1,-10000000,\n2,3,5\n");
     }
 
     #[test]

@@ -2,10 +2,15 @@
 
 mod common;
 
-use common::{budget_table, check, day_words, request_text, Folder, Ran, DAY};
-use energy::{Energy, Figures, LISTING_BYTES, MAX_CAPACITY, MAX_FILE_BYTES, MAX_FRAMES, MAX_HARVEST};
+use common::{bounded_text, budget_table, check, day_words, request_text, Folder, Ran, DAY};
+use energy::{
+    Energy, Figures, LISTING_BYTES, MAX_BOUND, MAX_CAPACITY, MAX_FILE_BYTES, MAX_FRAMES, MAX_HARVEST, NO_UPPER_END,
+};
+use evidence::lists::Lists;
 use evidence::reference::Reference;
 use proptest::prelude::*;
+use std::cell::{Cell, RefCell};
+use std::collections::BTreeSet;
 use std::fs;
 
 const TABLE: &str = "\
@@ -93,6 +98,282 @@ fn a_table_for_a_spreadsheet_is_read_again() {
         let planned = folder.run_with(&[&["plan", "--csv", "-"], &FIGURES[..]].concat(), table.as_bytes());
         assert_done(&planned, CSV);
     }
+}
+
+/// The day's request with these bounds.
+fn bounded_day(least: [u32; 6], most: [u32; 6]) -> String {
+    let lists = Lists {
+        harvest: vec![6, 4, 0, 0, 5, 5],
+        least: least.to_vec(),
+        most: most.to_vec(),
+    };
+    let (capacity, start, end) = (5, 2, 2);
+    bounded_text(Figures { capacity, start, end }, lists.frames())
+}
+
+const NO_MOSTS: [u32; 6] = [NO_UPPER_END; 6];
+
+/// A most of 3 Wh in the first frame and a least of 3 Wh in the fourth one.
+const BOUNDED: &str = "capacity 5\nstart 2\nend 2\nharvest least most\n6 - 3\n4 - -\n0 - -\n0 3 -\n5 - -\n5 - -\n";
+
+/// Its word file: a most word behind the first harvest, a least word behind the fourth one.
+fn bounded_words() -> Vec<u8> {
+    let words = day_words();
+    let [most, least] = [3_u32 | 5 << 29, 3 | 4 << 29].map(u32::to_le_bytes);
+    [&words[..16], &most, &words[16..28], &least, &words[28..]].concat()
+}
+
+#[test]
+fn a_bounded_plan_shows_its_bounds() {
+    let folder = Folder::new();
+    folder.write("bounded.txt", BOUNDED);
+    folder.write("bounded.words", bounded_words());
+    let shown = "\
+frame  harvest  least  most  budget  charge  loss
+    1        6      -     3       3       5     0
+    2        4      -     -       4       5     0
+    3        0      -     -       2       3     0
+    4        0      3     -       3       0     0
+    5        5      -     -       4       1     0
+    6        5      -     -       4       2     0
+
+6 frames: 20 Wh harvested, 20 Wh budgeted (mean 3.3, largest 4), 0 Wh lost.
+The charge goes from 2 to 2 Wh, and is at most 5 Wh after a frame, of a capacity of 5 Wh.
+Within the bounds, a capacity of 6 Wh would serve every curve as well as unlimited storage.
+Worth 320 480 100 by house curves 0, 1 and 2.
+";
+    let csv = "\
+frame,harvest,least,most,budget,charge,loss
+1,6,,3,3,5,0
+2,4,,,4,5,0
+3,0,,,2,3,0
+4,0,3,,3,0,0
+5,5,,,4,1,0
+6,5,,,4,2,0
+";
+    let listing =
+        "frames 6 capacity 5 needed 6\n1 3 5 0\n2 4 5 0\n3 2 3 0\n4 3 0 0\n5 4 1 0\n6 4 2 0\nworth 320 480 100\n";
+    for request in ["bounded.txt", "bounded.words"] {
+        assert_done(&folder.run(&["plan", request]), shown);
+        assert_done(&folder.run(&["plan", "--csv", request]), csv);
+        assert_done(&folder.run(&["plan", "--listing", request]), listing);
+        assert_done(&folder.run(&["needed", request]), "needed capacity 6 Wh\n");
+        assert_done(&folder.run(&["text", request]), BOUNDED);
+        assert_eq!(folder.run(&["words", request]).out, bounded_words());
+    }
+    // What is printed for a spreadsheet is the same request again.
+    let again = |command: &[&str]| folder.run_with(&[command, &FIGURES[..]].concat(), csv.as_bytes());
+    assert_done(&again(&["plan", "--csv", "-"]), csv);
+    assert_done(&again(&["text", "-"]), BOUNDED);
+    assert_done(
+        &folder.run_with(&["grade", "-"], csv.as_bytes()),
+        "worth 320 480 100 by house curves 0, 1 and 2\n",
+    );
+}
+
+#[test]
+fn only_the_bounds_that_there_are_have_a_column() {
+    let folder = Folder::new();
+    for (least, most, names, first) in [
+        ([0, 0, 0, 3, 0, 0], NO_MOSTS, "least", "1,6,,4,4,0"),
+        (
+            [0; 6],
+            [3, NO_UPPER_END, NO_UPPER_END, NO_UPPER_END, NO_UPPER_END, 9],
+            "most",
+            "1,6,3,3,5,0",
+        ),
+        ([0, 0, 0, 0, 6, 0], [9; 6], "least,most", "1,6,,9,4,4,0"),
+    ] {
+        let plan = folder.run_with(&["plan", "--csv", "-"], bounded_day(least, most).as_bytes());
+        let head = format!("frame,harvest,{names},budget,charge,loss\n{first}\n");
+        assert!(plan.text().starts_with(&head), "{}{}", plan.text(), plan.err);
+        let text = folder.run_with(&[&["text", "-"], &FIGURES[..]].concat(), &plan.out);
+        assert_done(&text, &bounded_day(least, most));
+    }
+    // Bounds that say nothing leave everything as it is without them.
+    let table = "harvest least most\n6 0 4294967295\n4 - -\n0 - -\n0 - -\n5 0 -\n5 - 4294967295\n";
+    for (command, shown) in [("plan --csv -", CSV), ("plan --listing -", LISTING), ("text -", DAY)] {
+        let arguments: Vec<&str> = command.split(' ').chain(FIGURES).collect();
+        assert_done(&folder.run_with(&arguments, table.as_bytes()), shown);
+    }
+    let words = folder.run_with(&[&["words", "-"], &FIGURES[..]].concat(), table.as_bytes());
+    assert_eq!(words.out, day_words());
+}
+
+#[test]
+fn mosts_may_leave_energy_to_be_lost_and_to_be_kept() {
+    let folder = Folder::new();
+    let shown = "\
+frame  harvest  most  budget  charge  loss
+    1        6     1       1       5     2
+    2        4     1       1       5     3
+    3        0     1       1       4     0
+    4        0     1       1       3     0
+    5        5     1       1       5     2
+    6        5     1       1       5     4
+
+6 frames: 20 Wh harvested, 6 Wh budgeted (mean 1.0, largest 1), 11 Wh lost that the full battery could not take.
+The charge goes from 2 to 5 Wh, where 2 Wh were asked for, and is at most 5 Wh after a frame, of a capacity of 5 Wh.
+Within the bounds, a capacity of 2 Wh would serve every curve as well as unlimited storage.
+Worth 96 144 30 by house curves 0, 1 and 2.
+";
+    let request = bounded_day([0; 6], [1; 6]);
+    assert_done(&folder.run_with(&["plan", "-"], request.as_bytes()), shown);
+    assert_done(
+        &folder.run_with(&["needed", "-"], request.as_bytes()),
+        "needed capacity 2 Wh\n",
+    );
+    let picture = folder
+        .run_with(&["plan", "-", "--chart", "-"], request.as_bytes())
+        .text();
+    for name in ["needed capacity 2 Wh", "of it lost to a full battery (11 Wh in all)"] {
+        assert!(picture.contains(&format!("\n{name}\n")), "{name}");
+    }
+}
+
+#[test]
+fn a_trace_tells_where_budgets_leave_the_bounds() {
+    let folder = Folder::new();
+    folder.write("bounded.txt", BOUNDED);
+    let feasible = "the charge ends at 2 Wh, and 2 Wh were asked for.";
+    let outside = [
+        "Not within the bounds in frame 1: its budget of 4 Wh is above its most of 3 Wh.",
+        "Not within the bounds in 2 frames, first in frame 1: its budget of 4 Wh is above its most of 3 Wh.",
+        "Not within the bounds in frame 4: its budget of 2 Wh is below its least of 3 Wh.",
+    ];
+    for (budgets, bounds, verdict) in [
+        ("3 4 2 3 4 4", None, format!("Feasible: {feasible}")),
+        (
+            "4 3 2 3 4 4",
+            Some(outside[0]),
+            format!("Feasible apart from the bounds: {feasible}"),
+        ),
+        (
+            "4 3 3 2 4 4",
+            Some(outside[1]),
+            format!("Feasible apart from the bounds: {feasible}"),
+        ),
+        (
+            "3 6 2 2 4 4",
+            Some(outside[2]),
+            "Not feasible: the charge after frame 4 is below zero.".to_string(),
+        ),
+        (
+            "3 9 2 3 4 4",
+            None,
+            "Not feasible: the charge after frame 3 is below zero.".to_string(),
+        ),
+    ] {
+        let trace = |more: &[&str]| {
+            let ran = folder.run_with(&[&["trace", "bounded.txt", "-"], more].concat(), budgets.as_bytes());
+            assert_eq!(ran.status, Some(0), "{}", ran.err);
+            ran
+        };
+        let table = trace(&[]);
+        let said = format!(
+            "\n{}\n{verdict}\n",
+            bounds.unwrap_or("Every budget is within its bounds.")
+        );
+        assert!(
+            table.text().ends_with(&said) && table.err.is_empty(),
+            "{}",
+            table.text()
+        );
+        assert!(table
+            .text()
+            .starts_with("frame  harvest  least  most  budget  charge  loss\n"));
+        // Where words have no place, what is amiss is told on standard error.
+        let is_amiss = verdict.starts_with("Not").then_some(verdict.as_str());
+        let told: String = bounds
+            .into_iter()
+            .chain(is_amiss)
+            .map(|line| format!("gomzhiva: {line}\n"))
+            .collect();
+        assert_eq!((&trace(&["--csv"]).err, &trace(&["--chart", "-"]).err), (&told, &told));
+        let title = trace(&["--chart", "-"]).text();
+        assert_eq!(
+            title.contains(": not within the bounds\n"),
+            bounds.is_some(),
+            "{budgets}"
+        );
+        assert_eq!(title.contains(": not feasible"), is_amiss.is_some(), "{budgets}");
+    }
+    // The tracer looks at no bounds, so it refuses none either.
+    let crossed = BOUNDED.replace("0 3 -", "0 3 1");
+    let ran = folder.run_with(&["trace", "-", "bounded.txt"], crossed.as_bytes());
+    assert_eq!(ran.status, Some(2), "a request is no budgets: {}", ran.err);
+    folder.write("budgets", "3 4 2 3 4 4");
+    let ran = folder.run_with(&["trace", "-", "budgets"], crossed.as_bytes());
+    assert_eq!((ran.status, ran.err.as_str()), (Some(0), ""));
+    let above = "Not within the bounds in frame 4: its budget of 3 Wh is above its most of 1 Wh.\n";
+    assert!(ran.text().contains(above), "{}", ran.text());
+}
+
+#[test]
+fn bounds_that_cannot_be_are_refused_with_their_frame() {
+    let folder = Folder::new();
+    for (bounds, more) in [
+        ("3 1", "its least is 3 Wh and its most is 1 Wh"),
+        ("536870912 -", "its least is 536870912 Wh"),
+        ("- 536870912", "its most is 536870912 Wh"),
+        ("4294967295 4294967295", "its least is 4294967295 Wh"),
+    ] {
+        let request = format!("capacity 5\nstart 2\nend 2\nharvest least most\n6 - -\n4 {bounds}\n5 9 1\n");
+        let sentence = "the least of frame 2 is above its most, or one of them is above 536870911 Wh";
+        for command in [
+            "plan -",
+            "plan --listing -",
+            "needed -",
+            "words - out",
+            "shift start - --journal out",
+        ] {
+            let arguments: Vec<&str> = command.split(' ').collect();
+            let ran = folder.run_with(&arguments, request.as_bytes());
+            assert_refused(&ran, "refused 10 2");
+            assert_eq!(
+                ran.err,
+                format!("gomzhiva: refused 10 2: {sentence}; {more}\n"),
+                "{command}"
+            );
+        }
+        assert!(folder.names().is_empty());
+        // The text of a request is there whatever the library says of it.
+        assert_eq!(folder.run_with(&["text", "-"], request.as_bytes()).status, Some(0));
+    }
+    // A word file can hold such bounds too.
+    let words = bounded_words();
+    let crossed = [&words[..16], &(4_u32 | 4 << 29).to_le_bytes(), &words[16..]].concat();
+    folder.write("crossed", crossed);
+    for command in [
+        &["plan", "crossed"][..],
+        &["plan", "--listing", "crossed"],
+        &["needed", "crossed"],
+    ] {
+        let ran = folder.run(command);
+        assert_refused(&ran, "refused 10 1");
+        assert!(
+            ran.err.ends_with("; its least is 4 Wh and its most is 3 Wh\n"),
+            "{}",
+            ran.err
+        );
+    }
+}
+
+#[test]
+fn a_plan_and_the_needed_capacity_can_differ_in_what_is_feasible() {
+    let folder = Folder::new();
+    let request = "capacity 2\nstart 0\nend 0\nharvest least\n6 -\n0 5\n";
+    let refused = folder.run_with(&["plan", "-"], request.as_bytes());
+    assert_refused(&refused, "refused 11 0");
+    assert_done(
+        &folder.run_with(&["needed", "-"], request.as_bytes()),
+        "needed capacity 5 Wh\n",
+    );
+    let larger = folder.run_with(&["plan", "--csv", "-", "--capacity", "5"], request.as_bytes());
+    assert_done(
+        &larger,
+        "frame,harvest,least,budget,charge,loss\n1,6,,1,5,0\n2,0,5,5,0,0\n",
+    );
 }
 
 #[test]
@@ -244,6 +525,14 @@ fn every_refusal_of_a_request() {
     let frames = |count: usize| request_text(5, 2, 2, &vec![1; count]);
     let high = MAX_CAPACITY + 1;
     let sunny = [1, MAX_HARVEST + 1, MAX_HARVEST + 1];
+    let bounded = |harvest: [u32; 2], least: [u32; 2], most: [u32; 2]| {
+        let [harvest, least, most] = [harvest, least, most].map(Vec::from);
+        let (capacity, start, end) = (8, 2, 5);
+        bounded_text(
+            Figures { capacity, start, end },
+            Lists { harvest, least, most }.frames(),
+        )
+    };
     for (request, plan, needed, trace, words) in [
         (frames(0), "1 0", "1 0", "1 0", "1 0"),
         (frames(MAX_FRAMES + 1), "2 0", "2 0", "2 0", "2 0"),
@@ -253,6 +542,31 @@ fn every_refusal_of_a_request() {
         (request_text(5, 2, 6, &[1]), "5 0", "9 3", "5 0", "5 0"),
         (request_text(5, 2, 2, &sunny), "6 2", "6 2", "6 2", "6 2"),
         (request_text(8, 3, 8, &[4]), "9 1", "9 1", "", ""),
+        (
+            bounded([9, MAX_HARVEST + 1], [5, 5], [0, 0]),
+            "6 2",
+            "6 2",
+            "6 2",
+            "6 2",
+        ),
+        (bounded([0, 0], [1, 3], [1, 2]), "10 2", "10 2", "", "10 2"),
+        (
+            bounded([9, 9], [0, MAX_BOUND + 1], [5, NO_UPPER_END]),
+            "10 2",
+            "10 2",
+            "",
+            "10 2",
+        ),
+        (bounded([9, 9], [0, 0], [MAX_BOUND + 1, 5]), "10 1", "10 1", "", "10 1"),
+        (bounded([0, 0], [3, 0], [MAX_BOUND, NO_UPPER_END]), "9 3", "9 3", "", ""),
+        (
+            bounded([9, 0], [12, 0], [MAX_BOUND, NO_UPPER_END]),
+            "11 0",
+            "11 0",
+            "",
+            "",
+        ),
+        (bounded([9, 0], [0, 8], [9, NO_UPPER_END]), "11 0", "", "", ""),
     ] {
         folder.write("request", &request);
         let budgets = format!("budget\n{}", "0\n".repeat(request.lines().count() - 4));
@@ -510,6 +824,11 @@ fn pictures_are_drawn_into_files_and_on_standard_output() {
     ] {
         assert!(text.contains(name), "{name}");
     }
+    folder.write("bounded.txt", BOUNDED);
+    let bounded = folder.run(&["plan", "bounded.txt", "--chart", "-"]).text();
+    for name in ["least budget (in 1 frame)", "most budget (in 1 frame)"] {
+        assert!(bounded.contains(name) && !text.contains(name), "{name}");
+    }
     for (budgets, name) in [
         ("4 4 4 4 2 2", "overdrawn"),
         ("0 0 0 0 0 0", "of it lost to a full battery (17 Wh in all)"),
@@ -522,41 +841,65 @@ fn pictures_are_drawn_into_files_and_on_standard_output() {
 }
 
 /// Any request of up to 40 frames, the refused ones among them.
-fn any_request() -> impl Strategy<Value = (Figures, Vec<u32>)> {
-    let harvests = prop::collection::vec(prop_oneof![8 => 0..20u32, 1 => MAX_HARVEST..MAX_HARVEST + 2], 0..40);
-    (0..60u32, 0..40u32, 0..40u32, harvests)
-        .prop_map(|(capacity, start, end, harvest)| (Figures { capacity, start, end }, harvest))
+fn any_request() -> impl Strategy<Value = (Figures, Lists)> {
+    let harvest = prop_oneof![60 => 0..20u32, 1 => MAX_HARVEST..MAX_HARVEST + 2];
+    let least = prop_oneof![60 => Just(0), 30 => 1..14u32, 1 => MAX_BOUND..MAX_BOUND + 2];
+    let most = prop_oneof![60 => Just(NO_UPPER_END), 60 => 12..20u32, 1 => MAX_BOUND..MAX_BOUND + 2];
+    let frames = prop::collection::vec((harvest, least, most), 0..40);
+    let kept = (any::<bool>(), any::<bool>());
+    (0..60u32, 0..40u32, 0..40u32, frames, kept).prop_map(|(capacity, start, end, frames, (leasts, mosts))| {
+        let mut lists = Lists::unbounded(frames.iter().map(|frame| frame.0).collect());
+        if leasts {
+            lists.least = frames.iter().map(|frame| frame.1).collect();
+        }
+        if mosts {
+            lists.most = frames.iter().map(|frame| frame.2).collect();
+        }
+        (Figures { capacity, start, end }, lists)
+    })
 }
 
 /// The program shows what the independent implementation says, refusals with P included.
 #[test]
 fn commands_show_the_reference() {
-    check(100, (any_request(), 0..5u32), |((figures, harvest), change)| {
+    let (bounded_plans, refusals) = (Cell::new(0), RefCell::new(BTreeSet::new()));
+    check(200, (any_request(), 0..5u32), |((figures, lists), change)| {
         let folder = Folder::new();
-        folder.write(
-            "request",
-            request_text(figures.capacity, figures.start, figures.end, &harvest),
-        );
-        let frames = harvest.len();
+        folder.write("request", bounded_text(figures, lists.frames()));
+        let (harvest, frames) = (&lists.harvest, lists.count());
         let lines = |said: Result<String, energy::Refusal>| said.unwrap_or_else(|refusal| format!("{refusal}\n"));
 
         let mut budgets = vec![0; frames];
-        let planned = Reference.plan(figures, &harvest, &mut budgets);
+        let planned = Reference.plan(figures, lists.frames(), &mut budgets);
         let plan = folder.run(&["plan", "--csv", "request"]);
-        prop_assert_eq!(plan.status, Some(i32::from(planned.is_err())));
-        if planned.is_ok() {
-            prop_assert_eq!(plan.text(), budget_table(0, figures, &harvest, &budgets));
+        match planned {
+            Ok(()) => {
+                let is_bounded = lists != Lists::unbounded(harvest.clone());
+                bounded_plans.set(bounded_plans.get() + u32::from(is_bounded));
+                prop_assert_eq!(plan.text(), budget_table(0, figures, lists.frames(), &budgets));
+                let needed = Reference.needed(figures, lists.frames());
+                let serves = format!("apacity of {} Wh would serve every curve", needed.unwrap());
+                prop_assert!(folder.run(&["plan", "request"]).text().contains(&serves), "{}", serves);
+            }
+            Err(refusal) => {
+                refusals.borrow_mut().insert(refusal.number());
+                prop_assert_eq!(plan.status, Some(1));
+                prop_assert!(plan.err.starts_with(&format!("gomzhiva: {refusal}: ")), "{}", plan.err);
+            }
         }
 
         let mut room = vec![0; MAX_FILE_BYTES];
-        let written = Reference.write(figures, &harvest, &mut room);
+        let written = Reference.write(figures, lists.frames(), &mut room);
+        let words = folder.run(&["words", "request"]);
+        prop_assert_eq!(words.status, Some(i32::from(written.is_err())));
         if let Ok(length) = written {
+            prop_assert_eq!(&words.out, &room[..length]);
             let mut text = vec![0; LISTING_BYTES];
             let bytes = Reference.listing(&room[..length], &mut text);
             prop_assert_eq!(&folder.run(&["plan", "--listing", "request"]).out, &text[..bytes]);
         }
 
-        let needed = Reference.needed(figures, &harvest);
+        let needed = Reference.needed(figures, lists.frames());
         let shown = lines(needed.map(|needed| format!("needed capacity {needed} Wh\n")));
         prop_assert_eq!(folder.run(&["needed", "request"]).text(), shown);
 
@@ -565,13 +908,15 @@ fn commands_show_the_reference() {
             *first = (*first + change).saturating_sub(2);
         }
         folder.write("budgets", format!("budget\n{}", common::column(&budgets)));
-        let traced = Reference.trace(figures, &harvest, &budgets, &mut vec![0; frames], &mut vec![0; frames]);
+        let traced = Reference.trace(figures, harvest, &budgets, &mut vec![0; frames], &mut vec![0; frames]);
         let trace = folder.run(&["trace", "--csv", "request", "budgets"]);
         prop_assert_eq!(trace.status, Some(i32::from(traced.is_err())));
         if let Ok(verdict) = traced {
-            prop_assert_eq!(trace.text(), budget_table(0, figures, &harvest, &budgets));
+            prop_assert_eq!(trace.text(), budget_table(0, figures, lists.frames(), &budgets));
             let words = folder.run(&["trace", "request", "budgets"]).text();
             prop_assert_eq!(words.contains("\nFeasible"), verdict == energy::Verdict::Feasible);
+            let within = |i: usize| (lists.least[i]..=lists.most[i]).contains(&budgets[i]);
+            prop_assert_eq!(words.contains("\nNot within the bounds in "), !(0..frames).all(within));
         }
 
         let worth = Reference
@@ -580,4 +925,9 @@ fn commands_show_the_reference() {
         prop_assert_eq!(folder.run(&["grade", "budgets"]).text(), lines(worth));
         Ok(())
     });
+    assert!(bounded_plans.get() > 10, "few plans have bounds");
+    assert!(
+        [10, 11].iter().all(|number| refusals.borrow().contains(number)),
+        "{refusals:?}"
+    );
 }

@@ -2,8 +2,9 @@
 
 mod common;
 
-use common::{recorded_row, request_text, standing, Folder};
-use energy::Figures;
+use common::{bounded_text, recorded_table, standing, Folder};
+use energy::{Figures, Shift};
+use evidence::lists::Lists;
 use evidence::random::{seed, Random};
 use evidence::reference::logbook::Logbook;
 use std::path::Path;
@@ -27,8 +28,10 @@ struct Killed<'a> {
     folder: Folder,
     /// Preloaded, so that a line is written in pieces and a kill can tear it.
     faults: Option<&'a Path>,
+    forecast: Lists,
     logbook: Logbook,
-    rows: String,
+    /// The record at the start and after each frame.
+    records: Vec<Shift>,
     /// How long a recording takes that is not killed.
     lasts: Duration,
 }
@@ -37,20 +40,25 @@ impl<'a> Killed<'a> {
     fn start(faults: Option<&'a Path>, random: &mut Random) -> Killed<'a> {
         let folder = Folder::new();
         let frames = 3 + random.up_to(5) as usize;
-        let forecast = random.list(frames, 9);
+        let mut forecast = Lists::unbounded(random.list(frames, 9));
+        if random.one_in(2) {
+            forecast.most = random.list(frames, 9);
+        }
         let figures = Figures {
             capacity: 12,
             start: random.up_to_u32(12),
             end: 0,
         };
-        let request = request_text(figures.capacity, figures.start, figures.end, &forecast);
+        let request = bounded_text(figures, forecast.frames());
         let started = folder.run_with(&["shift", "start", "-", "--journal", "journal"], request.as_bytes());
         assert_eq!(started.status, Some(0));
+        let logbook = Logbook::open(figures, frames);
         Killed {
             folder,
             faults,
-            logbook: Logbook::open(figures, &forecast),
-            rows: "frame,harvest,use,charge,loss\n".to_string(),
+            forecast,
+            records: vec![logbook.record_now()],
+            logbook,
             lasts: Duration::from_millis(3),
         }
     }
@@ -58,6 +66,11 @@ impl<'a> Killed<'a> {
     fn is_done(&self) -> bool {
         let shift = self.logbook.record_now();
         shift.now.recorded == shift.terms.frames
+    }
+
+    /// What `shift show --csv` must print.
+    fn rows(&self) -> String {
+        recorded_table(&self.records, self.forecast.frames())
     }
 
     /// Records the next frame, and kills the program after a while if one is given; the answer as far as it came.
@@ -101,10 +114,9 @@ impl<'a> Killed<'a> {
 
     /// What the logbook expects of an answered recording, which it then has.
     fn enter(&mut self, harvest: u32, used: u32) -> String {
-        let before = self.logbook.record_now();
         self.logbook.record(harvest, used).expect("figures that are accepted");
         let shift = self.logbook.record_now();
-        self.rows += &recorded_row(&before, &shift);
+        self.records.push(shift);
         format!("Recorded frame {}. {}", shift.now.recorded, standing(&shift))
     }
 
@@ -113,11 +125,11 @@ impl<'a> Killed<'a> {
         let shown = self.folder.run(&["shift", "show", "--csv", "--journal", "journal"]);
         assert_eq!(shown.status, Some(0), "{}", shown.err);
         ends.torn += u32::from(shown.err.contains("left out a torn last line"));
-        if shown.text() != self.rows {
+        if shown.text() != self.rows() {
             ends.written_unanswered += 1;
             self.enter(harvest, used);
         }
-        assert_eq!(shown.text(), self.rows);
+        assert_eq!(shown.text(), self.rows());
     }
 
     /// One turn of the recording loop.
@@ -141,7 +153,7 @@ impl<'a> Killed<'a> {
             self.folder
                 .run(&[&["shift", "show", "--journal", "journal"], csv].concat())
         };
-        assert_eq!(show(&["--csv"]).text(), self.rows);
+        assert_eq!(show(&["--csv"]).text(), self.rows());
         assert!(show(&[])
             .text()
             .ends_with(&format!("\n\n{}", standing(&self.logbook.record_now()))));

@@ -2,8 +2,9 @@
 
 mod common;
 
-use common::{budget_table, column, recorded_row, request_text, standing, Folder, Ran, DAY};
-use energy::{Energy, Figures, Rest, Shift, MAX_FRAMES};
+use common::{bounded_text, budget_table, column, recorded_table, request_text, standing, Bounds, Folder, Ran, DAY};
+use energy::{Energy, Figures, Frames, Rest, Shift, MAX_FRAMES, NO_UPPER_END};
+use evidence::lists::Lists;
 use evidence::random::{seed, Random};
 use evidence::reference::logbook::Logbook;
 use evidence::reference::Reference;
@@ -120,6 +121,196 @@ fn a_rest_that_is_short_says_by_how_much() {
     assert_eq!(folder.run(&SHOW).err, format!("gomzhiva: {missed}\n"));
 }
 
+/// The day's request with bounds: its sieves need 3 Wh in frame 4, its motors take 3, 1 and 4 Wh in frames 1, 3 and 6.
+const BOUNDED: &str = "capacity 5\nstart 2\nend 2\nharvest least most\n6 - 3\n4 - -\n0 - 1\n0 3 -\n5 - -\n5 - 4\n";
+
+#[test]
+fn a_shift_keeps_its_bounds_from_its_start_to_its_end() {
+    let folder = Folder::new();
+    assert_eq!(start(&folder, BOUNDED).status, Some(0));
+    let line = "start capacity 5 start 2 end 2 harvest 6 4 0 0 5 5 least - - - 3 - - most 3 - 1 - - 4";
+    assert_eq!(calls(&folder), [line]);
+    assert_eq!(record(&folder, 1, 3).status, Some(0));
+    let plan = "\
+frame  harvest  least  most  budget  charge  loss
+    2        4      -     -       1       3     0
+    3        0      -     1       0       3     0
+    4        0      3     -       3       0     0
+    5        5      -     -       4       1     0
+    6        5      -     4       4       2     0
+
+5 frames left: 14 Wh expected, 12 Wh budgeted (mean 2.4), 0 Wh lost. The charge goes from 0 to 2 Wh.
+";
+    assert_eq!(told(folder.run(&PLAN)), done(plan));
+    let csv = "frame,harvest,least,most,budget,charge,loss\n2,4,,,1,3,0\n3,0,,1,0,3,0\n4,0,3,,3,0,0\n5,5,,,4,1,0\n6,5,,4,4,2,0\n";
+    assert_eq!(told(folder.run(&[&PLAN[..], &["--csv"]].concat())), done(csv));
+    // Use is not bounded: 3 Wh where a most is 1 Wh, and nothing where a least is 3 Wh.
+    for (harvest, used) in [(5, 0), (0, 3), (5, 0)] {
+        assert_eq!(record(&folder, harvest, used).status, Some(0));
+    }
+    let shown = "\
+frame  harvest  least  most  use  charge  loss
+    1        1      -     3    3       0     0
+    2        5      -     -    0       5     0
+    3        0      -     1    3       2     0
+    4        5      3     -    0       5     2
+
+4 of 6 frames recorded; charge 5 Wh of a capacity of 5 Wh; 11 Wh harvested, 6 Wh used, 2 Wh lost.
+";
+    assert_eq!(
+        told(folder.run(&["shift", "show", "--journal", "journal"])),
+        done(shown)
+    );
+    let rows = "frame,harvest,least,most,use,charge,loss\n1,1,,3,3,0,0\n2,5,,,0,5,0\n3,0,,1,3,2,0\n4,5,3,,0,5,2\n";
+    assert_eq!(told(folder.run(&SHOW)), done(rows));
+    // What happened is a request again, with the bounds that its frames had.
+    let figures = ["--capacity", "5", "--start", "2", "--end", "2"];
+    let text = folder.run_with(&[&["text", "-"], &figures[..]].concat(), rows.as_bytes());
+    let hindsight = "capacity 5\nstart 2\nend 2\nharvest least most\n1 - 3\n5 - -\n0 - 1\n5 3 -\n";
+    assert_eq!(told(text), done(hindsight));
+    // No frame that is left has a least.
+    let rest = "\
+frame  harvest  most  budget  charge  loss
+    5        5     -       9       1     0
+    6        5     4       4       2     0
+
+2 frames left: 10 Wh expected, 13 Wh budgeted (mean 6.5), 0 Wh lost. The charge goes from 5 to 2 Wh.
+";
+    assert_eq!(told(folder.run(&PLAN)), done(rest));
+}
+
+#[test]
+fn a_rest_may_have_to_lose_and_to_end_above_its_end_charge() {
+    let folder = Folder::new();
+    let request = "capacity 5\nstart 2\nend 2\nharvest most\n6 -\n4 1\n4 2\n";
+    assert_eq!(start(&folder, request).status, Some(0));
+    assert_eq!(record(&folder, 6, 4).status, Some(0));
+    let plan = "\
+frame  harvest  most  budget  charge  loss
+    2        4     1       1       5     2
+    3        4     2       2       5     2
+
+2 frames left: 8 Wh expected, 3 Wh budgeted (mean 1.5), 4 Wh lost that the full battery could not take. \
+The charge goes from 4 to 5 Wh, where 2 Wh were asked for.
+";
+    assert_eq!(told(folder.run(&PLAN)), done(plan));
+}
+
+#[test]
+fn a_rest_in_which_nothing_is_feasible_is_short_by_what_the_end_charge_misses() {
+    let zeros = "so every budget is 0";
+    // Frame 4 needs 3 Wh that nothing gives: the end charge is reached, and by nothing missed.
+    let folder = Folder::new();
+    assert_eq!(start(&folder, BOUNDED).status, Some(0));
+    for (harvest, used) in [(1, 3), (0, 0)] {
+        assert_eq!(record(&folder, harvest, used).status, Some(0));
+    }
+    let reached = format!(
+        "Short: nothing within the bounds of the 4 frames left is feasible, {zeros}; \
+         with nothing used, the end charge of 2 Wh is reached."
+    );
+    let csv = "frame,harvest,least,most,budget,charge,loss\n3,0,,1,0,0,0\n4,0,3,,0,0,0\n5,5,,,0,5,0\n6,5,,4,0,5,5\n";
+    let spreadsheet = (Some(0), csv.to_string(), format!("gomzhiva: {reached}\n"));
+    assert_eq!(told(folder.run(&[&PLAN[..], &["--csv"]].concat())), spreadsheet);
+    let words = told(folder.run(&PLAN));
+    assert!(
+        words.1.ends_with(&format!("\n\n{reached}\n")) && words.2.is_empty(),
+        "{words:?}"
+    );
+    let picture = folder.run(&CHART);
+    let warning = "the rest is short: nothing within its bounds is feasible";
+    assert!(picture
+        .text()
+        .contains(&format!("Shift: 2 of 6 frames recorded; {warning}")));
+    assert_eq!(
+        (picture.status, picture.err),
+        (Some(0), format!("gomzhiva: {warning}\n"))
+    );
+    // The least is out of reach, and so is the end charge.
+    let folder = Folder::new();
+    let request = "capacity 9\nstart 3\nend 7\nharvest least\n9 -\n1 3\n";
+    assert_eq!(start(&folder, request).status, Some(0));
+    assert_eq!(record(&folder, 2, 1).status, Some(0));
+    let missed = format!(
+        "Short: with nothing used in the 1 frame left, the end charge of 7 Wh is still missed by 2 Wh, {zeros}."
+    );
+    let table = "frame  harvest  least  budget  charge  loss\n    2        1      3       0       5     0\n";
+    assert_eq!(told(folder.run(&PLAN)), done(&format!("{table}\n{missed}\n")));
+    assert_eq!(folder.run(&CHART).err, "gomzhiva: the rest is short by 2 Wh\n");
+}
+
+/// A journal as it was before there were bounds.
+const OLD_JOURNAL: &str =
+    "start capacity 5 start 2 end 2 harvest 6 4 0 0 5 5 *e637905d\nrecord 1 3 *f11fcd2b\nrecord 14 2 *4cd54801\n";
+
+#[test]
+fn a_journal_from_before_there_were_bounds_goes_on() {
+    let folder = Folder::new();
+    folder.write("journal", OLD_JOURNAL);
+    assert_eq!(told(folder.run(&SHOW)), done(SHOWN));
+    assert_eq!(
+        folder_of_a_shift().read("journal"),
+        OLD_JOURNAL.as_bytes(),
+        "a shift without bounds is kept as before"
+    );
+    assert_eq!(record(&folder, 0, 3).status, Some(0));
+    assert_eq!(calls(&folder).len(), 4);
+}
+
+#[test]
+fn a_picture_shows_the_bounds_of_recorded_and_planned_frames() {
+    let folder = Folder::new();
+    assert_eq!(start(&folder, BOUNDED).status, Some(0));
+    assert_eq!(record(&folder, 1, 3).status, Some(0));
+    let text = folder.run(&CHART).text();
+    for name in [
+        "least budget (in 1 frame)",
+        "most budget (in 3 frames)",
+        "needed capacity of the rest 3 Wh",
+    ] {
+        assert!(text.contains(&format!("\n{name}\n")), "{name}");
+    }
+    // The mosts of frames 1, 3 and 6 and the least of frame 4, each a bracket that is as wide as its frame.
+    let brackets = |colour: &str| -> Vec<Vec<i32>> {
+        let drawn = text.lines().filter(|line| line.contains(colour)).skip(1);
+        drawn.map(columns_of).collect()
+    };
+    let now = number_behind(&text, "\nnow\n", "x");
+    let (most, least) = (brackets("#286EC8"), brackets("#148C5A"));
+    let [begin, end] = [most[0][0], most[0][3]];
+    assert_eq!(end, now, "frame 1 is recorded, and ends now");
+    let frame = |number: i32| {
+        let edge = |frames: i32| begin + (end - begin) * frames;
+        [edge(number - 1), edge(number)]
+    };
+    for (bracket, number) in most.iter().chain(&least).zip([1, 3, 6, 4]) {
+        let [left, right] = frame(number);
+        assert!(
+            (bracket[0] - left).abs() <= 6 && (bracket[3] - right).abs() <= 6,
+            "{bracket:?} of frame {number}"
+        );
+    }
+    assert_eq!((most.len(), least.len()), (3, 1));
+}
+
+/// The places from left to right of the points of a line.
+fn columns_of(line: &str) -> Vec<i32> {
+    let points = line.split("points=\"").nth(1).and_then(|rest| rest.split('"').next());
+    let across = |point: &str| {
+        point
+            .split(',')
+            .next()
+            .expect("a place")
+            .parse()
+            .expect("a whole number")
+    };
+    points
+        .expect("a line of points")
+        .split_whitespace()
+        .map(across)
+        .collect()
+}
+
 #[test]
 fn nothing_takes_a_journals_place() {
     let folder = folder_of_a_shift();
@@ -197,47 +388,90 @@ fn calls(folder: &Folder) -> Vec<String> {
 }
 
 /// The plan of the rest as a table, from the logbook's budgets.
-fn rest_table(shift: &Shift, forecast: &[u32], budgets: &[u32]) -> String {
+fn rest_table(shift: &Shift, forecast: &Lists, budgets: &[u32]) -> String {
     let next = shift.now.recorded as usize;
     let figures = Figures {
         capacity: shift.terms.capacity,
         start: shift.now.charge,
         end: shift.terms.end,
     };
-    budget_table(shift.now.recorded, figures, &forecast[next..], &budgets[next..])
+    let left = Frames {
+        harvest: &forecast.harvest[next..],
+        least: &forecast.least[next..],
+        most: &forecast.most[next..],
+    };
+    budget_table(shift.now.recorded, figures, left, &budgets[next..])
+}
+
+/// A forecast, in half of all cases with bounds in some frames.
+fn any_forecast(random: &mut Random) -> Lists {
+    let frames = 1 + random.up_to(6) as usize;
+    let mut forecast = Lists::unbounded(random.list(frames, 9));
+    if random.one_in(2) {
+        for frame in 0..frames {
+            if random.one_in(3) {
+                forecast.least[frame] = random.up_to_u32(4);
+            }
+            if random.one_in(3) {
+                forecast.most[frame] = forecast.least[frame] + random.up_to_u32(4);
+            }
+        }
+    }
+    forecast
+}
+
+/// The lists of bounds in the line of a start.
+fn bound_words(frames: Frames) -> String {
+    let bounds = [(frames.least, 0, "least"), (frames.most, NO_UPPER_END, "most")];
+    let given = bounds
+        .into_iter()
+        .filter(|(list, none, _)| list.iter().any(|n| n != none));
+    let shown = |n: u32, none: u32| if n == none { " -".to_string() } else { format!(" {n}") };
+    let words = |(list, none, name): (&[u32], u32, &str)| {
+        let list: String = list.iter().map(|&n| shown(n, none)).collect();
+        format!(" {name}{list}")
+    };
+    given.map(words).collect()
+}
+
+/// How often a rest was short of something and of nothing, and how often a plan had bounds.
+#[derive(Default, Debug)]
+struct Seen {
+    missing: u32,
+    nothing: u32,
+    bounded: u32,
 }
 
 /// A shift's calls, refused ones among them: each is answered as the logbook says, and the journal holds the accepted ones.
-/// Gives how often the rest was short.
-fn assert_logbooks(random: &mut Random) -> u32 {
-    let mut shorts = 0;
+fn assert_logbooks(random: &mut Random, seen: &mut Seen) {
     let folder = Folder::new();
-    let frames = 1 + random.up_to(6) as usize;
-    let forecast = random.list(frames, 9);
+    let forecast = any_forecast(random);
+    let frames = forecast.count();
     let capacity = random.up_to_u32(12);
     let figures = Figures {
         capacity,
         start: random.up_to_u32(capacity),
         end: random.up_to_u32(capacity),
     };
-    let request = request_text(capacity, figures.start, figures.end, &forecast);
-    let started = start(&folder, &request);
-    if let Err(refusal) = Reference.shift_start(figures, &forecast) {
+    let started = start(&folder, &bounded_text(figures, forecast.frames()));
+    if let Err(refusal) = Reference.shift_start(figures, forecast.frames()) {
         assert_eq!((started.status, started.text()), (Some(1), format!("{refusal}\n")));
         assert!(folder.names().is_empty());
-        return 0;
+        return;
     }
-    let mut logbook = Logbook::open(figures, &forecast);
+    let mut logbook = Logbook::open(figures, frames);
     assert_eq!(
         told(started),
         done(&format!("Started. {}", standing(&logbook.record_now())))
     );
-    let line = column(&forecast).trim_end().replace('\n', " ");
+    let line = column(&forecast.harvest).trim_end().replace('\n', " ");
     let mut accepted = vec![format!(
-        "start capacity {capacity} start {} end {} harvest {line}",
-        figures.start, figures.end
+        "start capacity {capacity} start {} end {} harvest {line}{}",
+        figures.start,
+        figures.end,
+        bound_words(forecast.frames())
     )];
-    let mut rows = "frame,harvest,use,charge,loss\n".to_string();
+    let mut records = vec![logbook.record_now()];
     for _ in 0..2 * frames + 2 {
         let harvest = if random.one_in(8) {
             400_001
@@ -254,7 +488,7 @@ fn assert_logbooks(random: &mut Random) -> u32 {
                 let answer = format!("Recorded frame {}. {}", shift.now.recorded, standing(&shift));
                 assert_eq!(told(recorded), done(&answer));
                 accepted.push(format!("record {harvest} {used}"));
-                rows += &recorded_row(&shift_before, &shift);
+                records.push(shift);
             }
             Err(refusal) => {
                 assert_eq!((recorded.status, recorded.text()), (Some(1), format!("{refusal}\n")));
@@ -263,21 +497,24 @@ fn assert_logbooks(random: &mut Random) -> u32 {
         }
         let mut budgets = vec![0; frames];
         let plan = folder.run(&[&PLAN[..], &["--csv"]].concat());
-        match logbook.plan_rest(&forecast, &mut budgets) {
+        match logbook.plan_rest(forecast.frames(), &mut budgets) {
             Ok(rest) => {
                 let table = rest_table(&logbook.record_now(), &forecast, &budgets);
                 assert_eq!((plan.status, plan.text()), (Some(0), table));
                 let words = folder.run(&PLAN).text();
-                let (missed, warning) = match rest {
+                let last = words.lines().last().expect("words");
+                let (said, warning) = match rest {
                     Rest::Planned => (" left: ".to_string(), String::new()),
-                    Rest::Short { missing } => {
-                        let last = words.lines().last().expect("words");
-                        (format!("missed by {missing} Wh"), format!("gomzhiva: {last}\n"))
-                    }
+                    Rest::Short { missing: 0 } => ("is reached.".to_string(), format!("gomzhiva: {last}\n")),
+                    Rest::Short { missing } => (format!("missed by {missing} Wh"), format!("gomzhiva: {last}\n")),
                 };
-                assert!(words.contains(&missed), "{words}");
+                assert!(last.contains(&said), "{words}");
                 assert_eq!(plan.err, warning, "a short rest is told beside its zeros");
-                shorts += u32::from(rest != Rest::Planned);
+                match rest {
+                    Rest::Planned => seen.bounded += u32::from(!Bounds::of(forecast.frames()).names(" ").is_empty()),
+                    Rest::Short { missing: 0 } => seen.nothing += 1,
+                    Rest::Short { .. } => seen.missing += 1,
+                }
             }
             Err(refusal) => {
                 assert_eq!(plan.status, Some(1));
@@ -286,21 +523,20 @@ fn assert_logbooks(random: &mut Random) -> u32 {
         }
         assert_eq!(calls(&folder), accepted);
         let shown = folder.run(&SHOW);
-        assert_eq!((shown.status, shown.text()), (Some(0), rows.clone()));
+        let rows = recorded_table(&records, forecast.frames());
+        assert_eq!((shown.status, shown.text()), (Some(0), rows));
         let shift = logbook.record_now();
         let missed = shift.now.recorded == shift.terms.frames && shift.now.charge < shift.terms.end;
         assert_eq!(shown.err.contains("below the end charge"), missed);
     }
     assert!(logbook.balances());
-    shorts
 }
 
 #[test]
 fn every_call_is_answered_as_the_logbook_says() {
-    let shorts: u32 = (0..60)
-        .map(|case| assert_logbooks(&mut Random::of_case(seed(), case)))
-        .sum();
-    assert!(shorts > 0, "no rest was short");
+    let mut seen = Seen::default();
+    (0..90).for_each(|case| assert_logbooks(&mut Random::of_case(seed(), case), &mut seen));
+    assert!(seen.missing > 0 && seen.nothing > 0 && seen.bounded > 0, "{seen:?}");
 }
 
 #[test]
@@ -426,11 +662,39 @@ fn every_damage_is_refused_with_its_line() {
     }
 }
 
+/// The first line of a journal, with its checksum.
+fn sealed(call: &str) -> String {
+    format!("{call} *{:08x}\n", crc32fast::hash(call.as_bytes()))
+}
+
+#[test]
+fn bounds_that_no_start_writes_are_damage() {
+    let folder = Folder::new();
+    let call = |lists: &str| format!("start capacity 5 start 2 end 2 harvest 6 4{lists}");
+    folder.write("journal", sealed(&call(" least - 3 most 5 -")));
+    assert_eq!(folder.run(&PLAN).status, Some(0), "as a start writes them");
+    for lists in [
+        " least 3",
+        " least - 3 -",
+        " least - -",
+        " most 5",
+        " most - 4294967295",
+        " least 0 3",
+        " most 5 - least - 3",
+        " least - 3 most",
+        " least - x",
+        " budget 4 3",
+    ] {
+        folder.write("journal", sealed(&call(lists)));
+        assert_damaged(&folder, 1);
+    }
+}
+
 #[test]
 fn a_journal_of_a_longer_shift_than_there_may_be_is_refused() {
     let folder = Folder::new();
     let call = format!("start capacity 5 start 2 end 2 harvest{}", " 1".repeat(MAX_FRAMES + 1));
-    folder.write("journal", format!("{call} *{:08x}\n", crc32fast::hash(call.as_bytes())));
+    folder.write("journal", sealed(&call));
     let before = folder.read("journal");
     for arguments in COMMANDS {
         let ran = folder.run(arguments);

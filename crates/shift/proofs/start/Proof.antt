@@ -2,9 +2,10 @@
 use mathlib.Core.Path.{_≡_, sym, ap, _∙_}
 use mathlib.Core.Bool.{true, false}
 use native.Mathlib.Omega.{arith}
+use lib.ListN.{length}
 use borrow.Author.Needs.{needs}
 use borrow.Author.Tests.{not-true, not-false}
-use Rattle.model.specs.Request.{request}
+use Rattle.model.specs.Request.{boundedRequest}
 use Rattle.model.specs.Refusals.{isNone}
 use Rattle.request.proofs.Within.{start-within}
 use Rattle.model.proofs.Choice.{pick-by}
@@ -17,9 +18,9 @@ returns : tie.Need-returns
 returns c =
     let t = c .before in
     let f = t .before .before in
-    let s = f .before .before .args in
-    let q = request (s .figures) (s .harvest .now) in
-    law.start-says q (f .start-refusal .result) (c .fresh-shift .result) (f .start-refusal .ensures)
+    let s = f .before .before .before .before .args in
+    let q = boundedRequest (s .figures) (s .harvest .now) (s .least .now) (s .most .now) in
+    law.start-says q (length (s .least .now)) (length (s .most .now)) (f .start-refusal .result) (c .fresh-shift .result) (f .start-refusal .ensures)
     (c .fresh-shift .ensures
     ∙ sym (pick-by (isNone (f .start-refusal .result)) false (started q) noShift
     (sym (t .before .is-none .ensures) ∙ not-true (t .before .is-none .result) (t .if1 .taken))))
@@ -32,17 +33,17 @@ clear c = sym (c .before .is-none .ensures) ∙ not-false (c .before .is-none .r
 cast-frames : tie.Need-cast-frames
 cast-frames c =
     let f = c .before .before in
-    let s = f .before .before .args in
-    let w = start-within (request (s .figures) (s .harvest .now)) (ap isNone (sym (f .start-refusal .ensures))
-    ∙ clear c) in
+    let s = f .before .before .before .before .args in
+    let w = start-within (boundedRequest (s .figures) (s .harvest .now) (s .least .now) (s .most .now))
+    (length (s .least .now)) (length (s .most .now)) (ap isNone (sym (f .start-refusal .ensures)) ∙ clear c) in
     omega arith
 
 returns-2 : tie.Need-returns-2
 returns-2 c =
     let f = c .before .before .before in
-    let s = f .before .before .args in
-    let q = request (s .figures) (s .harvest .now) in
-    law.start-says q (f .start-refusal .result) (c .fresh-shift2 .result) (f .start-refusal .ensures)
+    let s = f .before .before .before .before .args in
+    let q = boundedRequest (s .figures) (s .harvest .now) (s .least .now) (s .most .now) in
+    law.start-says q (length (s .least .now)) (length (s .most .now)) (f .start-refusal .result) (c .fresh-shift2 .result) (f .start-refusal .ensures)
     (c .fresh-shift2 .ensures ∙ sym
     (pick-by (isNone (f .start-refusal .result)) true (started q) noShift (clear (c .before))))
 

@@ -1,8 +1,10 @@
-//! The charge rule, which tracer, search, shift and logbook call, and Definition 1: which assignments are feasible.
+//! The charge rule, which tracer, search, shift and logbook call, and which assignments are feasible: Definition 1 within
+//! the least and the most of every frame.
 
-use energy::Figures;
+use super::limits::NO_UPPER_END;
+use energy::{Figures, Frames};
 
-/// What a plan goes by besides its harvests: a capacity, also one that no request has, the charge before the first of
+/// What a plan goes by besides its frames: a capacity, also one that no request has, the charge before the first of
 /// its frames, and the end charge.
 #[derive(Clone, Copy, Debug, PartialEq, Eq)]
 pub struct Store {
@@ -60,7 +62,7 @@ pub fn walk<'a>(store: Store, harvest: &'a [u32], budgets: &'a [u32]) -> impl It
 }
 
 /// Definition 1: the charge is at least 0 after every frame but the last, and at least the end charge after that.
-pub fn feasible(store: Store, harvest: &[u32], budgets: &[u32]) -> bool {
+fn drawable(store: Store, harvest: &[u32], budgets: &[u32]) -> bool {
     let mut charge = whole(store.start);
     for after in walk(store, harvest, budgets) {
         charge = after.charge;
@@ -69,4 +71,38 @@ pub fn feasible(store: Store, harvest: &[u32], budgets: &[u32]) -> bool {
         }
     }
     charge >= whole(store.end)
+}
+
+/// Whether a frame's budget is at least its least and, where it has an upper end, at most its most.
+pub fn within(least: u32, most: u32, budget: u32) -> bool {
+    least <= budget && (most == NO_UPPER_END || budget <= most)
+}
+
+/// Definition 1 with every budget within the bounds of its frame.
+pub fn feasible(store: Store, frames: Frames, budgets: &[u32]) -> bool {
+    let bounds = frames.least.iter().zip(frames.most);
+    let mut bounded = bounds.zip(budgets);
+    bounded.all(|((&least, &most), &budget)| within(least, most, budget)) && drawable(store, frames.harvest, budgets)
+}
+
+/// The frames from a place on.
+pub fn frames_from(frames: Frames, first: usize) -> Frames {
+    Frames {
+        harvest: &frames.harvest[first..],
+        least: &frames.least[first..],
+        most: &frames.most[first..],
+    }
+}
+
+/// All that can ever be drawn: the start charge and all harvest.
+pub fn most_energy(store: Store, harvest: &[u32]) -> u64 {
+    store.start + harvest.iter().map(|&h| u64::from(h)).sum::<u64>()
+}
+
+/// The store with a capacity that no charge reaches.
+pub fn unlimited(store: Store, harvest: &[u32]) -> Store {
+    Store {
+        capacity: most_energy(store, harvest) + store.end,
+        ..store
+    }
 }

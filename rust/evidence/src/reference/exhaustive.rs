@@ -1,22 +1,21 @@
 //! The plan and the needed capacity by a search through all assignments, straight from document 01's definitions.
 
-use super::charge::{frame, whole, Store};
-use super::needed::unlimited;
+use super::charge::{frame, frames_from, unlimited, whole, within, Store};
 use super::tables::Table;
-use energy::Figures;
+use energy::{Figures, Frames};
 
 /// All feasible assignments of a small request; the capacity may exceed its limit.
-pub fn feasible_assignments(store: Store, harvest: &[u32]) -> Vec<Vec<u32>> {
+pub fn feasible_assignments(store: Store, frames: Frames) -> Vec<Vec<u32>> {
     let mut all = Vec::new();
-    extend(store, whole(store.start), harvest, &mut Vec::new(), &mut all);
+    extend(store, whole(store.start), frames, &mut Vec::new(), &mut all);
     all
 }
 
-/// Adds every feasible assignment that begins with the given budgets, which lead to the given charge; `harvest` is that of
-/// the frames left.
-fn extend(store: Store, charge: i64, harvest: &[u32], budgets: &mut Vec<u32>, all: &mut Vec<Vec<u32>>) {
-    let (&first, rest) = match harvest.split_first() {
-        Some(parts) => parts,
+/// Adds every feasible assignment that begins with the given budgets, which lead to the given charge; `frames` are those
+/// that are left.
+fn extend(store: Store, charge: i64, frames: Frames, budgets: &mut Vec<u32>, all: &mut Vec<Vec<u32>>) {
+    let first = match frames.harvest.first() {
+        Some(&first) => first,
         None => {
             if charge >= whole(store.end) {
                 all.push(budgets.clone());
@@ -29,9 +28,11 @@ fn extend(store: Store, charge: i64, harvest: &[u32], budgets: &mut Vec<u32>, al
         if charge < 0 {
             return;
         }
-        budgets.push(budget);
-        extend(store, charge, rest, budgets, all);
-        budgets.pop();
+        if within(frames.least[0], frames.most[0], budget) {
+            budgets.push(budget);
+            extend(store, charge, frames_from(frames, 1), budgets, all);
+            budgets.pop();
+        }
     }
 }
 
@@ -59,13 +60,15 @@ pub fn plan(all: &[Vec<u32>], tables: &[Table]) -> Option<Vec<u32>> {
         .cloned()
 }
 
-/// The needed capacity by the tables given: the least, at least start and end, whose best rewards are those of unlimited storage.
-pub fn needed(store: Store, harvest: &[u32], tables: &[Table]) -> u64 {
-    let most = unlimited(store, harvest).capacity;
-    let rewards = |capacity| best_rewards(&feasible_assignments(Store { capacity, ..store }, harvest), tables);
-    let wanted = rewards(most);
+/// The needed capacity by the tables given: the least, at least start and end, with which something is feasible and whose
+/// best rewards are those of unlimited storage.
+pub fn needed(store: Store, frames: Frames, tables: &[Table]) -> u64 {
+    let most = unlimited(store, frames.harvest).capacity;
+    let assignments = |capacity| feasible_assignments(Store { capacity, ..store }, frames);
+    let wanted = best_rewards(&assignments(most), tables);
+    let serves = |all: Vec<Vec<u32>>| !all.is_empty() && best_rewards(&all, tables) == wanted;
     (store.start.max(store.end)..=most)
-        .find(|&capacity| rewards(capacity) == wanted)
+        .find(|&capacity| serves(assignments(capacity)))
         .expect("unlimited storage serves as unlimited storage")
 }
 

@@ -3,8 +3,8 @@
 use super::charge::frame;
 use super::plan::by_filling;
 use super::refusals::{self, Checked};
-use super::shift::{balances, entry, joined, rest, terms};
-use energy::{Figures, Present, Refusal, Rest, Shift, Totals};
+use super::shift::{balances, entry, joined, lengths, rest, terms};
+use energy::{Figures, Frames, Present, Refusal, Rest, Shift, Totals};
 
 /// The request that the shift was started from, a count, a charge and the totals; and the history they sum up.
 #[derive(Clone, Debug)]
@@ -20,10 +20,10 @@ pub struct Logbook {
 
 impl Logbook {
     /// The logbook at the start of a shift from a valid, reachable request.
-    pub fn open(figures: Figures, harvest: &[u32]) -> Logbook {
+    pub fn open(figures: Figures, frames: usize) -> Logbook {
         Logbook {
             figures,
-            frames: harvest.len(),
+            frames,
             count: 0,
             charge: figures.start,
             totals: Totals::default(),
@@ -50,15 +50,12 @@ impl Logbook {
         Ok(())
     }
 
-    /// What planning the rest must answer (7, 20, 6, short), and the budgets that it must leave.
-    pub fn plan_rest(&self, harvest: &[u32], budgets: &mut [u32]) -> Result<Rest, Refusal> {
-        refusals::same_length(harvest.len(), self.frames)?;
-        refusals::same_length(budgets.len(), self.frames)?;
+    /// What planning the rest must answer (7, 20, 6, 10, short), and the budgets that it must leave.
+    pub fn plan_rest(&self, frames: Frames, budgets: &mut [u32]) -> Result<Rest, Refusal> {
+        lengths(frames, budgets.len(), self.frames)?;
         self.frames_left()?;
-        let (left, open) = (&harvest[self.count..], &mut budgets[self.count..]);
-        refusals::harvests(self.count as u64 + 1, left)?;
         let terms = terms(self.figures, self.frames);
-        Ok(rest(terms, self.charge, left, open, by_filling))
+        rest(terms, self.count, self.charge, frames, budgets, by_filling)
     }
 
     /// Where the part that begins at the next frame begins (7, 20).

@@ -1,4 +1,5 @@
-//! Document 01 in Rust, written from the document and not from the Rattle code: simple methods, correctness first.
+//! Document 01, as document 02 has changed it so far, written from the documents and not from the Rattle code: simple
+//! methods, correctness first.
 
 pub mod charge;
 pub mod curves;
@@ -14,7 +15,7 @@ pub mod tables;
 pub mod tracer;
 pub mod wordfile;
 
-use energy::{Energy, Figures, Header, NotRecorded, Refusal, Rest, Shift, Verdict};
+use energy::{Energy, Figures, Frames, Header, NotRecorded, Refusal, Rest, Shift, Verdict};
 
 /// The independent implementation.
 pub struct Reference;
@@ -24,15 +25,15 @@ impl Energy for Reference {
         "reference"
     }
 
-    fn plan(&self, figures: Figures, harvest: &[u32], budgets: &mut [u32]) -> Result<(), Refusal> {
-        refusals::plan(figures, harvest, budgets.len())?;
-        budgets.copy_from_slice(&plan::by_filling(figures.into(), harvest));
+    fn plan(&self, figures: Figures, frames: Frames, budgets: &mut [u32]) -> Result<(), Refusal> {
+        refusals::plan(figures, frames, budgets.len())?;
+        budgets.copy_from_slice(&plan::by_filling(figures.into(), frames));
         Ok(())
     }
 
-    fn needed(&self, figures: Figures, harvest: &[u32]) -> Result<u64, Refusal> {
-        refusals::needed(figures, harvest)?;
-        Ok(needed::needed(figures.into(), harvest))
+    fn needed(&self, figures: Figures, frames: Frames) -> Result<u64, Refusal> {
+        refusals::needed(figures, frames)?;
+        Ok(needed::needed(figures.into(), frames))
     }
 
     fn trace(
@@ -52,28 +53,28 @@ impl Energy for Reference {
         Ok(curves::grade(budgets))
     }
 
-    fn shift_start(&self, figures: Figures, harvest: &[u32]) -> Result<Shift, Refusal> {
-        shift::start(figures, harvest)
+    fn shift_start(&self, figures: Figures, frames: Frames) -> Result<Shift, Refusal> {
+        shift::start(figures, frames)
     }
 
     fn shift_record(&self, shift: Shift, harvest: u32, used: u32) -> Result<Shift, NotRecorded> {
         shift::record(shift, harvest, used)
     }
 
-    fn shift_plan_rest(&self, shift: Shift, harvest: &[u32], budgets: &mut [u32]) -> Result<Rest, Refusal> {
-        shift::plan_rest(shift, harvest, budgets, plan::by_filling)
+    fn shift_plan_rest(&self, shift: Shift, frames: Frames, budgets: &mut [u32]) -> Result<Rest, Refusal> {
+        shift::plan_rest(shift, frames, budgets, plan::by_filling)
     }
 
     fn shift_rest_part<'a>(&self, shift: Shift, budgets: &'a [u32]) -> Result<&'a [u32], Refusal> {
         shift::rest_part(shift, budgets)
     }
 
-    fn read(&self, file: &[u8], harvest: &mut [u32]) -> Result<Header, Refusal> {
-        wordfile::read(file, harvest)
+    fn read(&self, file: &[u8], harvest: &mut [u32], least: &mut [u32], most: &mut [u32]) -> Result<Header, Refusal> {
+        wordfile::read(file, harvest, least, most)
     }
 
-    fn write(&self, figures: Figures, harvest: &[u32], file: &mut [u8]) -> Result<usize, Refusal> {
-        wordfile::write(figures, harvest, file)
+    fn write(&self, figures: Figures, frames: Frames, file: &mut [u8]) -> Result<usize, Refusal> {
+        wordfile::write(figures, frames, file)
     }
 
     fn listing(&self, file: &[u8], text: &mut [u8]) -> usize {

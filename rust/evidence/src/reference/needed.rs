@@ -1,26 +1,20 @@
-//! The needed capacity: by its definition over plans, and by the source's formula. A store's own capacity plays no part.
+//! The needed capacity: by its definition over plans, and by what a plan without limit requires. A store's own capacity
+//! plays no part.
 
-use super::charge::{walk, whole, Store};
+use super::charge::{feasible, unlimited, Store};
 use super::plan::{by_filling, by_reserve};
+use energy::Frames;
 
 /// The most frames for which the definition is fast enough.
 const FEW_FRAMES: usize = 40;
 
-/// The needed capacity: by its definition for few frames, and by the source's formula for more.
-pub fn needed(store: Store, harvest: &[u32]) -> u64 {
-    if harvest.len() <= FEW_FRAMES {
-        by_definition(store, harvest)
+/// The needed capacity: by its definition for few frames, and by requirements for more.
+pub fn needed(store: Store, frames: Frames) -> u64 {
+    if frames.harvest.len() <= FEW_FRAMES {
+        by_definition(store, frames)
     } else {
-        by_peak(store, harvest, &by_reserve(unlimited(store, harvest), harvest))
-    }
-}
-
-/// The store with a capacity that no charge reaches.
-pub fn unlimited(store: Store, harvest: &[u32]) -> Store {
-    let all: u64 = harvest.iter().map(|&h| u64::from(h)).sum();
-    Store {
-        capacity: store.start + store.end + all,
-        ..store
+        let open_plan = by_reserve(unlimited(store, frames.harvest), frames);
+        by_requirement(store, frames.harvest, &open_plan)
     }
 }
 
@@ -32,10 +26,13 @@ fn by_size(mut budgets: Vec<u32>) -> Vec<u32> {
 }
 
 /// The least capacity, at least start and end, whose plan serves as much at every level as the plan without limit.
-/// More capacity never serves less, so it is found by bisection.
-pub fn by_definition(store: Store, harvest: &[u32]) -> u64 {
-    let served = |capacity| by_size(by_filling(Store { capacity, ..store }, harvest));
-    let (mut low, mut high) = (store.start.max(store.end), unlimited(store, harvest).capacity);
+/// More capacity never serves less, so it is found by bisection. With too little, nothing may be feasible.
+pub fn by_definition(store: Store, frames: Frames) -> u64 {
+    let served = |capacity| {
+        let store = Store { capacity, ..store };
+        feasible(store, frames, frames.least).then(|| by_size(by_filling(store, frames)))
+    };
+    let (mut low, mut high) = (store.start.max(store.end), unlimited(store, frames.harvest).capacity);
     let wanted = served(high);
     while low < high {
         let middle = low + (high - low) / 2;
@@ -48,8 +45,13 @@ pub fn by_definition(store: Store, harvest: &[u32]) -> u64 {
     low
 }
 
-/// The source's formula, the start and end charges counted too: the greatest charge under a plan without limit.
-pub fn by_peak(store: Store, harvest: &[u32], open_plan: &[u32]) -> u64 {
-    let charges = walk(unlimited(store, harvest), harvest, open_plan).map(|end| end.charge);
-    charges.fold(whole(store.start.max(store.end)), i64::max) as u64
+/// The greatest charge that a plan without limit requires anywhere, the start and end charges counted too. Required before
+/// a frame is what its budget and the frames behind it require beyond its harvest, and after the last the end charge.
+pub fn by_requirement(store: Store, harvest: &[u32], open_plan: &[u32]) -> u64 {
+    let (mut required, mut greatest) = (store.end, store.start.max(store.end));
+    for (&h, &budget) in harvest.iter().zip(open_plan).rev() {
+        required = (u64::from(budget) + required).saturating_sub(h.into());
+        greatest = greatest.max(required);
+    }
+    greatest
 }

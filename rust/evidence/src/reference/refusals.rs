@@ -1,9 +1,9 @@
-//! Refusals because of the input, each with its P, in document 01's order.
+//! Refusals because of the input, each with its P, in the order of documents 01 and 02.
 
-use super::charge::at_hand;
-use super::limits::{MAX_CAPACITY, MAX_FRAMES, MAX_HARVEST};
+use super::charge::{at_hand, feasible, unlimited, Store};
+use super::limits::{MAX_BOUND, MAX_CAPACITY, MAX_FRAMES, MAX_HARVEST, NO_UPPER_END};
 use super::wordfile::file_bytes;
-use energy::{Figures, Refusal};
+use energy::{Figures, Frames, Refusal};
 
 /// A refusal, or nothing to refuse.
 pub type Checked = Result<(), Refusal>;
@@ -46,16 +46,38 @@ pub fn harvests(first: u64, harvest: &[u32]) -> Checked {
     }
 }
 
+/// Whether a least is above its most, or a least or a most with an upper end is above its limit.
+fn bad_bounds(least: u32, most: u32) -> bool {
+    least > most || least > MAX_BOUND || (most > MAX_BOUND && most != NO_UPPER_END)
+}
+
+/// 10: the earliest frame with bad bounds; the first of the lists belongs to the given frame.
+pub fn bounds(first: u64, frames: Frames) -> Checked {
+    let mut pairs = frames.least.iter().zip(frames.most);
+    match pairs.position(|(&least, &most)| bad_bounds(least, most)) {
+        Some(place) => Err(Refusal::BadBounds {
+            frame: first + place as u64,
+        }),
+        None => Ok(()),
+    }
+}
+
 /// What the end charge misses when nothing is used: end less start less all harvest, 0 if it is reached.
-pub fn missing(request: Figures, harvest: &[u32]) -> u64 {
+pub fn missing(store: Store, harvest: &[u32]) -> u64 {
     let all: u64 = harvest.iter().map(|&h| u64::from(h)).sum();
-    u64::from(request.end).saturating_sub(u64::from(request.start) + all)
+    store.end.saturating_sub(store.start + all)
 }
 
 /// 9: start plus all harvest is below the end charge.
-pub fn reach(request: Figures, harvest: &[u32]) -> Checked {
-    let missing = missing(request, harvest);
+pub fn end_charge(store: Store, harvest: &[u32]) -> Checked {
+    let missing = missing(store, harvest);
     refuse_if(missing > 0, Refusal::OutOfReach { missing })
+}
+
+/// 9 and 11: the end charge; the leasts taken as budgets are not feasible.
+pub fn reach(store: Store, frames: Frames) -> Checked {
+    end_charge(store, frames.harvest)?;
+    refuse_if(!feasible(store, frames, frames.least), Refusal::LeastsNotFeasible)
 }
 
 /// 20: every frame is recorded already.
@@ -69,21 +91,35 @@ pub fn use_within(charge: u64, harvest: u32, used: u32) -> Checked {
     refuse_if(excess > 0, Refusal::UseAboveCharge { excess })
 }
 
-/// Planning: 1, 2, 7, 3, 4, 5, 6, 9.
-pub fn plan(request: Figures, harvest: &[u32], budgets: usize) -> Checked {
-    frames(harvest.len())?;
-    same_length(budgets, harvest.len())?;
-    figures(request, harvest)?;
-    reach(request, harvest)
+/// 1, 2 and 7: the number of frames, and the lists of bounds.
+pub fn lists(lists: Frames) -> Checked {
+    frames(lists.harvest.len())?;
+    same_length(lists.least.len(), lists.harvest.len())?;
+    same_length(lists.most.len(), lists.harvest.len())
 }
 
-/// The needed capacity: 1, 2, 3 for start or end, 6, 9.
-pub fn needed(request: Figures, harvest: &[u32]) -> Checked {
+/// Planning: 1, 2, 7, 3, 4, 5, 6, 10, 9, 11.
+pub fn plan(request: Figures, frames: Frames, budgets: usize) -> Checked {
+    lists(frames)?;
+    same_length(budgets, frames.harvest.len())?;
+    figures(request, frames.harvest)?;
+    bounds(1, frames)?;
+    reach(request.into(), frames)
+}
+
+/// 3 where no capacity is given: start or end.
+pub fn charges(request: Figures) -> Checked {
     let Figures { start, end, .. } = request;
-    frames(harvest.len())?;
-    refuse_if(start > MAX_CAPACITY || end > MAX_CAPACITY, Refusal::CapacityOverLimit)?;
-    harvests(1, harvest)?;
-    reach(request, harvest)
+    refuse_if(start > MAX_CAPACITY || end > MAX_CAPACITY, Refusal::CapacityOverLimit)
+}
+
+/// The needed capacity: 1, 2, 7, 3 for start or end, 6, 10, 9, and 11 with unlimited storage.
+pub fn needed(request: Figures, frames: Frames) -> Checked {
+    lists(frames)?;
+    charges(request)?;
+    harvests(1, frames.harvest)?;
+    bounds(1, frames)?;
+    reach(unlimited(request.into(), frames.harvest), frames)
 }
 
 /// Tracing: 1, 2, 7, 3, 4, 5, 6.
@@ -95,14 +131,15 @@ pub fn trace(request: Figures, harvest: &[u32], budgets: usize, charges: usize, 
     figures(request, harvest)
 }
 
-/// Starting a shift: 1, 2, 3, 4, 5, 6, 9.
-pub fn start(request: Figures, harvest: &[u32]) -> Checked {
-    plan(request, harvest, harvest.len())
+/// Starting a shift: 1, 2, 7, 3, 4, 5, 6, 10, 9, 11.
+pub fn start(request: Figures, frames: Frames) -> Checked {
+    plan(request, frames, frames.harvest.len())
 }
 
-/// Writing a word file: 1, 2, 7 for a list too short, 3, 4, 5, 6.
-pub fn write(request: Figures, harvest: &[u32], room: usize) -> Checked {
-    frames(harvest.len())?;
-    refuse_if(room < file_bytes(harvest.len()), Refusal::WrongLength)?;
-    figures(request, harvest)
+/// Writing a word file: 1, 2, 7 for lists of bounds and for a list too short, 3, 4, 5, 6, 10.
+pub fn write(request: Figures, frames: Frames, room: usize) -> Checked {
+    lists(frames)?;
+    refuse_if(room < file_bytes(frames), Refusal::WrongLength)?;
+    figures(request, frames.harvest)?;
+    bounds(1, frames)
 }

@@ -1,18 +1,18 @@
 //! The shift as functions of its record, for any record, an impossible one too.
 
-use super::charge::{frame, Store};
+use super::charge::{frame, frames_from, Store};
 use super::limits::{MAX_CAPACITY, MAX_FRAMES, MAX_HARVEST};
 use super::refusals::{self, refuse_if, Checked};
-use energy::{Figures, NotRecorded, Present, Refusal, Rest, Shift, Terms, Totals};
+use energy::{Figures, Frames, NotRecorded, Present, Refusal, Rest, Shift, Terms, Totals};
 
 /// How a plan is made.
-pub type PlanMethod = fn(Store, &[u32]) -> Vec<u32>;
+pub type PlanMethod = fn(Store, Frames) -> Vec<u32>;
 
 /// Starts a shift from a valid, reachable request.
-pub fn start(figures: Figures, harvest: &[u32]) -> Result<Shift, Refusal> {
-    refusals::start(figures, harvest)?;
+pub fn start(figures: Figures, frames: Frames) -> Result<Shift, Refusal> {
+    refusals::start(figures, frames)?;
     Ok(Shift {
-        terms: terms(figures, harvest.len()),
+        terms: terms(figures, frames.harvest.len()),
         now: Present {
             recorded: 0,
             charge: figures.start,
@@ -96,33 +96,48 @@ pub fn record(s: Shift, harvest: u32, used: u32) -> Result<Shift, NotRecorded> {
     })
 }
 
-/// Plans the frames not yet recorded: 22, 7, 20, 6 over these.
-pub fn plan_rest(s: Shift, harvest: &[u32], budgets: &mut [u32], method: PlanMethod) -> Result<Rest, Refusal> {
+/// Plans the frames not yet recorded, by the lists lent: 22, 7, 20, and 6 and 10 over these.
+pub fn plan_rest(s: Shift, frames: Frames, budgets: &mut [u32], method: PlanMethod) -> Result<Rest, Refusal> {
     is_shift(&s)?;
-    refusals::same_length(harvest.len(), s.terms.frames as usize)?;
-    refusals::same_length(budgets.len(), s.terms.frames as usize)?;
+    lengths(frames, budgets.len(), s.terms.frames as usize)?;
     frames_left(&s)?;
-    let next = s.now.recorded as usize;
-    let (left, open) = (&harvest[next..], &mut budgets[next..]);
-    refusals::harvests(next as u64 + 1, left)?;
-    Ok(rest(s.terms, s.now.charge, left, open, method))
+    rest(s.terms, s.now.recorded as usize, s.now.charge, frames, budgets, method)
 }
 
-/// The plan of the frames that are left, for which the present charge stands for the start charge, or what they miss and
-/// budgets of 0.
-pub fn rest(terms: Terms, charge: u32, harvest: &[u32], budgets: &mut [u32], method: PlanMethod) -> Rest {
-    let left = Figures {
-        capacity: terms.capacity,
-        start: charge,
-        end: terms.end,
-    };
-    let missing = refusals::missing(left, harvest);
-    if missing > 0 {
-        budgets.fill(0);
-        return Rest::Short { missing };
+/// 7: the lists lent for planning the rest.
+pub fn lengths(lent: Frames, budgets: usize, frames: usize) -> Checked {
+    for length in [lent.harvest.len(), lent.least.len(), lent.most.len(), budgets] {
+        refusals::same_length(length, frames)?;
     }
-    budgets.copy_from_slice(&method(left.into(), harvest));
-    Rest::Planned
+    Ok(())
+}
+
+/// The plan of the frames that are left, for which the present charge stands for the start charge, or, where nothing is
+/// feasible, what they miss and budgets of 0. Refuses 6 and 10.
+pub fn rest(
+    terms: Terms,
+    recorded: usize,
+    charge: u32,
+    frames: Frames,
+    budgets: &mut [u32],
+    method: PlanMethod,
+) -> Result<Rest, Refusal> {
+    let (left, open) = (frames_from(frames, recorded), &mut budgets[recorded..]);
+    let next = recorded as u64 + 1;
+    refusals::harvests(next, left.harvest)?;
+    refusals::bounds(next, left)?;
+    let store = Store {
+        capacity: terms.capacity.into(),
+        start: charge.into(),
+        end: terms.end.into(),
+    };
+    if refusals::reach(store, left).is_err() {
+        open.fill(0);
+        let missing = refusals::missing(store, left.harvest);
+        return Ok(Rest::Short { missing });
+    }
+    open.copy_from_slice(&method(store, left));
+    Ok(Rest::Planned)
 }
 
 /// The part of the budgets that begins at the next frame: 22, 7, 20.

@@ -3,7 +3,8 @@
 use super::marks::{self, Point};
 use super::scale::{grouped, Scale};
 use super::{text_style, Drawn, Page, Picture, LETTER, LIFT};
-use crate::report::sum;
+use crate::report::{counted, sum};
+use crate::request::Bound;
 use plotters::style::text_anchor::{HPos, Pos, VPos};
 
 const ROW: i32 = 100;
@@ -21,6 +22,7 @@ enum Mark {
     Harvest,
     Budget,
     Lost,
+    Limit(Bound),
 }
 
 /// The marks of one panel and their names.
@@ -63,7 +65,7 @@ impl Legend {
         }
     }
 
-    pub fn of_energy(picture: &Picture<'_>) -> Legend {
+    pub fn of_energy(picture: &Picture<'_>, scale: &Scale) -> Legend {
         let total = |list: &[u32]| grouped(sum(list).into());
         let harvest = format!("{} ({} Wh in all)", harvest_name(picture), total(picture.harvest));
         let budgets = format!("{} ({} Wh in all)", budget_name(picture), total(picture.budgets));
@@ -72,6 +74,8 @@ impl Legend {
             let lost = format!("of it lost to a full battery ({} Wh in all)", total(picture.losses));
             entries.push((Mark::Lost, lost));
         }
+        let bounds = Bound::ALL.into_iter();
+        entries.extend(bounds.filter_map(|bound| Some((Mark::Limit(bound), limit_name(picture, scale, bound)?))));
         Legend {
             frames: picture.frames(),
             entries,
@@ -115,8 +119,21 @@ impl Legend {
             Mark::Harvest => marks::harvest_bars(area, &block),
             Mark::Budget => marks::budget_steps(area, &steps, self.frames),
             Mark::Lost => marks::lost_part(area, (left, top), (right, bottom)),
+            Mark::Limit(bound) => marks::limit(area, *bound, &[(left, y), (right, y)], top..=bottom, self.frames),
         }
     }
+}
+
+/// What a bound is called and how many frames have it, if any does.
+fn limit_name(picture: &Picture<'_>, scale: &Scale, bound: Bound) -> Option<String> {
+    let limits: Vec<f64> = picture.limits(bound).into_iter().flatten().collect();
+    let above = limits.iter().filter(|&&limit| !scale.reaches(limit)).count();
+    let place = match above {
+        0 => String::new(),
+        above => format!(", above the picture in {}", grouped(above as i128)),
+    };
+    let frames = counted(limits.len(), "frame");
+    (!limits.is_empty()).then(|| format!("{} budget (in {frames}{place})", bound.name()))
 }
 
 fn needed_name(picture: &Picture<'_>) -> &'static str {

@@ -3,13 +3,17 @@
 //! Lines that coincide stay apart by their widths: the narrower one lies on the wider one.
 
 use super::{Drawn, Page};
+use crate::request::Bound;
 use plotters::prelude::*;
+use std::ops::RangeInclusive;
 
 const CHARGE: RGBColor = RGBColor(11, 60, 93);
 const CAPACITY: RGBColor = RGBColor(165, 165, 165);
 const NEEDED: RGBColor = RGBColor(178, 45, 30);
 const HARVEST: RGBColor = RGBColor(238, 166, 32);
 const LOST: RGBColor = RGBColor(88, 36, 120);
+const LEAST: RGBColor = RGBColor(20, 140, 90);
+const MOST: RGBColor = RGBColor(40, 110, 200);
 const RECORDED: RGBColor = RGBColor(232, 232, 232);
 const NOW: RGBColor = RGBColor(95, 95, 95);
 const OVERDRAWN: RGBColor = RGBColor(205, 70, 50);
@@ -17,6 +21,7 @@ const OVERDRAWN: RGBColor = RGBColor(205, 70, 50);
 const DASH: i32 = 75;
 const GAP: i32 = 50;
 const DIAMOND: i32 = 42;
+const BRACKET: i32 = 45;
 /// The most frames that are wide enough for a dot each.
 const MOST_DOTS: usize = 48;
 
@@ -106,6 +111,24 @@ pub fn striped(svg: &str) -> String {
 
 pub fn budget_steps(page: &Page<'_>, points: &[Point], frames: usize) -> Drawn {
     page.draw(&PathElement::new(points, BLACK.stroke_width(line_width(frames))))
+}
+
+/// A bound along frames that have it: a bracket that is open towards what is allowed, but not beyond the edges of the plot.
+/// The budgets lie on it.
+pub fn limit(page: &Page<'_>, bound: Bound, points: &[Point], edges: RangeInclusive<i32>, frames: usize) -> Drawn {
+    let (colour, depth) = match bound {
+        Bound::Least => (LEAST, -BRACKET),
+        Bound::Most => (MOST, BRACKET),
+    };
+    let end = |&(x, y): &Point| (x, (y + depth).clamp(*edges.start(), *edges.end()));
+    let ends = |point: Option<&Point>| point.map(end).into_iter();
+    let bracket = ends(points.first())
+        .chain(points.iter().copied())
+        .chain(ends(points.last()));
+    page.draw(&PathElement::new(
+        bracket.collect::<Vec<_>>(),
+        colour.stroke_width(2 * line_width(frames)),
+    ))
 }
 
 /// Lines get thinner as the frames get narrower.

@@ -6,6 +6,7 @@ mod panel;
 mod scale;
 mod title;
 
+use crate::request::Bound;
 use legend::Legend;
 use panel::Panel;
 use plotters::coord::Shift;
@@ -38,6 +39,9 @@ pub struct Picture<'a> {
     /// The charge that is asked for after the last frame.
     pub end: u32,
     pub harvest: &'a [u32],
+    /// The bounds of each budget, as the library is lent them.
+    pub least: &'a [u32],
+    pub most: &'a [u32],
     pub budgets: &'a [u32],
     /// The charge after each frame; below zero where supplied budgets overdraw the battery.
     pub charges: &'a [i64],
@@ -69,6 +73,18 @@ impl Picture<'_> {
     fn is_losing(&self) -> bool {
         self.losses.iter().any(|&loss| loss > 0)
     }
+
+    /// A bound of each frame, where it has one.
+    fn limits(&self, bound: Bound) -> Vec<Option<f64>> {
+        let listed = match bound {
+            Bound::Least => self.least,
+            Bound::Most => self.most,
+        };
+        listed
+            .iter()
+            .map(|&listed| bound.given(listed).map(f64::from))
+            .collect()
+    }
 }
 
 fn draw(page: &Page<'_>, picture: &Picture<'_>) -> Drawn {
@@ -76,7 +92,7 @@ fn draw(page: &Page<'_>, picture: &Picture<'_>) -> Drawn {
     let energy_scale = Scale::of_energy(picture);
     let left = charge_scale.label_width().max(energy_scale.label_width());
     let charge_legend = Legend::of_charges(picture, &charge_scale);
-    let energy_legend = Legend::of_energy(picture);
+    let energy_legend = Legend::of_energy(picture, &energy_scale);
 
     page.fill(&WHITE)?;
     let mut rest = page.margin(MARGIN, MARGIN, MARGIN, MARGIN);
@@ -125,7 +141,7 @@ fn sized_for_paper(svg: &str) -> String {
 #[cfg(test)]
 mod tests {
     use super::*;
-    use energy::MAX_FRAMES;
+    use energy::{MAX_FRAMES, NO_UPPER_END};
 
     const PLAN: Picture<'static> = Picture {
         title: "plan",
@@ -134,6 +150,8 @@ mod tests {
         start: 3,
         end: 3,
         harvest: &[0, 2, 7, 4, 1, 0],
+        least: &[0; 6],
+        most: &[NO_UPPER_END; 6],
         budgets: &[2, 2, 3, 3, 2, 1],
         charges: &[1, 1, 5, 5, 4, 3],
         losses: &[0, 0, 0, 1, 0, 0],
@@ -144,6 +162,8 @@ mod tests {
     fn even_svg(frames: usize, (harvest, budget, charge, loss): (u32, u32, i64, u32), rest: Picture) -> String {
         svg(&Picture {
             harvest: &vec![harvest; frames],
+            least: &vec![0; frames],
+            most: &vec![NO_UPPER_END; frames],
             budgets: &vec![budget; frames],
             charges: &vec![charge; frames],
             losses: &vec![loss; frames],
@@ -162,6 +182,20 @@ mod tests {
     fn point(text: &str) -> (i32, i32) {
         let (x, y) = text.split_once(',').expect("a comma between two coordinates");
         (x.parse().expect("a whole number"), y.parse().expect("a whole number"))
+    }
+
+    /// The lines and areas of a colour.
+    fn coloured(svg: &str, colour: &str) -> Vec<Vec<(i32, i32)>> {
+        let is_drawn = |line: &&str| line.contains(&format!("=\"{colour}\""));
+        outlines(&svg.lines().filter(is_drawn).collect::<String>())
+    }
+
+    /// The brackets of a bound, the legend's first.
+    fn brackets(svg: &str, bound: Bound) -> Vec<Vec<(i32, i32)>> {
+        match bound {
+            Bound::Least => coloured(svg, "#148C5A"),
+            Bound::Most => coloured(svg, "#286EC8"),
+        }
     }
 
     /// Opposite corners of each striped part, the legend's first.
@@ -288,6 +322,119 @@ mod tests {
         assert!(!none.contains("lost"));
     }
 
+    /// Every so many frames have bounds, two neighbouring ones different ones, and a most may be 0.
+    fn some_bounds(frames: usize) -> [Vec<u32>; 2] {
+        let bounds = |list: [u32; 7]| list.into_iter().cycle().take(frames).collect();
+        let none = NO_UPPER_END;
+        [bounds([0, 3, 5, 0, 0, 1, 0]), bounds([6, none, none, 0, 2, 9, none])]
+    }
+
+    #[test]
+    fn bounds_stand_at_their_frames_and_open_to_what_is_allowed() {
+        for frames in [1, 6, 96, MAX_FRAMES] {
+            let [least, most] = some_bounds(frames);
+            let text = svg(&Picture {
+                harvest: &vec![7; frames],
+                least: &least,
+                most: &most,
+                budgets: &vec![5; frames],
+                charges: &vec![9; frames],
+                losses: &vec![0; frames],
+                ..PLAN
+            });
+            let bar = coloured(&text, "#EEA620").pop().expect("the bars");
+            let (zero, seven) = (bar[0].1, bar[1].1);
+            let steps = outlines(&text).pop().expect("the budgets");
+            for (bound, list) in [(Bound::Least, least), (Bound::Most, most)] {
+                let mut drawn = vec![None; frames];
+                for bracket in brackets(&text, bound).iter().skip(1) {
+                    let (ends, levels) = ([bracket[0], *bracket.last().unwrap()], &bracket[1..bracket.len() - 1]);
+                    let open = |y: i32| match bound {
+                        Bound::Least => y - 45,
+                        Bound::Most => zero.min(y + 45),
+                    };
+                    let outer = [levels[0], *levels.last().unwrap()];
+                    assert_eq!(ends, outer.map(|(x, y)| (x, open(y))), "{bound:?}");
+                    for level in levels.chunks(2) {
+                        let frame = steps.chunks(2).position(|step| step[0].0 == level[0].0);
+                        let frame = frame.expect("a frame that begins here");
+                        assert_eq!((level[1].0, level[0].1), (steps[2 * frame + 1].0, level[1].1));
+                        drawn[frame] = Some(level[0].1);
+                    }
+                }
+                for (frame, (drawn, listed)) in drawn.into_iter().zip(list).enumerate() {
+                    let level = |given: u32| zero - (zero - seven) * given as i32 / 7;
+                    match (drawn, bound.given(listed).map(level)) {
+                        (Some(drawn), Some(level)) => assert!((drawn - level).abs() <= 1, "{drawn} for {level}"),
+                        (drawn, level) => assert_eq!(drawn, level, "{bound:?} of frame {}", frame + 1),
+                    }
+                }
+            }
+        }
+    }
+
+    #[test]
+    fn neighbouring_frames_share_a_bracket() {
+        let text = svg(&Picture {
+            least: &[1, 0, 2, 2, 3, 0],
+            ..PLAN
+        });
+        let lengths: Vec<usize> = brackets(&text, Bound::Least).iter().map(Vec::len).collect();
+        assert_eq!(lengths, [4, 4, 8], "the legend's, one frame, three frames");
+        assert!(
+            text.rfind("#EEA620") < text.rfind("#148C5A") && text.rfind("#148C5A") < text.rfind("<polyline"),
+            "over the bars, under the budgets"
+        );
+    }
+
+    #[test]
+    fn bounds_are_named_where_there_are_any() {
+        let [least, most] = some_bounds(6);
+        for (least, most, names) in [
+            (
+                &least[..],
+                &most[..],
+                ["least budget (in 3 frames)", "most budget (in 4 frames)"],
+            ),
+            (&least, PLAN.most, ["least budget (in 3 frames)", ""]),
+            (
+                PLAN.least,
+                &[1, NO_UPPER_END, 1, 1, 1, 1],
+                ["", "most budget (in 5 frames)"],
+            ),
+            (&[0, 0, 0, 0, 0, 2], PLAN.most, ["least budget (in 1 frame)", ""]),
+            (PLAN.least, PLAN.most, ["", ""]),
+        ] {
+            let text = svg(&Picture { least, most, ..PLAN });
+            for (bound, name) in Bound::ALL.into_iter().zip(names) {
+                let is_named = text.contains(&format!("\n{} budget ", bound.name()));
+                assert_eq!(is_named, !name.is_empty(), "{bound:?}");
+                assert_eq!(brackets(&text, bound).is_empty(), name.is_empty(), "{bound:?}");
+                assert!(text.contains(name), "{name}");
+            }
+        }
+    }
+
+    #[test]
+    fn bounds_far_above_are_only_named() {
+        let bars = |text: &str| coloured(text, "#EEA620").pop();
+        let none = NO_UPPER_END;
+        let text = svg(&Picture {
+            most: &[29, none, none, 300, none, 400],
+            ..PLAN
+        });
+        assert!(text.contains("\nmost budget (in 3 frames, above the picture in 3)\n"));
+        let named = |most: &[u32; 6]| svg(&Picture { most, ..PLAN });
+        assert_eq!(bars(&text), bars(&named(&[1, none, none, 1, none, 1])));
+        assert_eq!(brackets(&text, Bound::Most).len(), 1, "the legend's");
+        let near = named(&[28, none, none, none, none, 29]);
+        assert!(
+            near.contains("\nmost budget (in 2 frames)\n"),
+            "29 has room where 28 is taken in"
+        );
+        assert_eq!(brackets(&near, Bound::Most).len(), 3);
+    }
+
     #[test]
     fn the_charge_after_a_frame_stands_where_its_bar_ends() {
         let picture = Picture { recorded: 2, ..PLAN };
@@ -326,7 +473,7 @@ mod tests {
 
     #[test]
     fn extremes_stay_on_the_page() {
-        let none = Picture {
+        let none = || Picture {
             capacity: 0,
             needed: Some(0),
             start: 0,
@@ -343,13 +490,31 @@ mod tests {
         };
         let pictures = [
             even_svg(0, (0, 0, 0, 0), PLAN),
-            even_svg(6, (0, 0, 0, 0), none),
+            even_svg(6, (0, 0, 0, 0), none()),
             even_svg(1, (u32::MAX, 0, i64::MAX, u32::MAX), most()),
             even_svg(MAX_FRAMES, (400_000, u32::MAX, -2_900_000_000_000, 400_000), most()),
             even_svg(MAX_FRAMES, (0, u32::MAX, i64::MIN, 0), PLAN),
             svg(&Picture {
                 charges: &[i64::MIN, i64::MAX, 0, -1, 0, 1],
                 ..most()
+            }),
+            svg(&Picture {
+                least: &[0, 7, u32::MAX, 1, 0, 7],
+                most: &[0, 0, 1, 7, 0, u32::MAX - 1],
+                ..PLAN
+            }),
+            svg(&Picture {
+                least: &[u32::MAX; 6],
+                most: &[0, 0, 1, 0, 0, 1],
+                budgets: &[u32::MAX; 6],
+                ..most()
+            }),
+            svg(&Picture {
+                harvest: &[0; 6],
+                most: &[0; 6],
+                budgets: &[0; 6],
+                losses: &[0; 6],
+                ..none()
             }),
         ];
         let inside = |&(x, y): &(i32, i32)| (1..5940).contains(&x) && (1..4200).contains(&y);
@@ -365,5 +530,16 @@ mod tests {
         let week = || even_svg(MAX_FRAMES, (4_999, 2_500, 88_888, 999), PLAN);
         assert!(week().len() < 300_000);
         assert_eq!(week(), week());
+        let [least, most] = some_bounds(MAX_FRAMES);
+        let bounded = svg(&Picture {
+            harvest: &vec![4_999; MAX_FRAMES],
+            least: &least,
+            most: &most,
+            budgets: &vec![2_500; MAX_FRAMES],
+            charges: &vec![88_888; MAX_FRAMES],
+            losses: &vec![999; MAX_FRAMES],
+            ..PLAN
+        });
+        assert!(bounded.len() < 300_000, "{}", bounded.len());
     }
 }

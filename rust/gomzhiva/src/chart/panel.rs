@@ -3,6 +3,7 @@
 use super::marks::{self, Point};
 use super::scale::{grouped, Scale};
 use super::{text_style, Drawn, NotDrawn, Page, Picture, LETTER, LIFT};
+use crate::request::Bound;
 use plotters::prelude::*;
 use plotters::style::text_anchor::{HPos, Pos, VPos};
 use std::iter::once;
@@ -77,8 +78,22 @@ impl<'p, 'a> Panel<'p, 'a> {
         for (corner, opposite) in lost_parts(self.picture.harvest, self.picture.losses) {
             marks::lost_part(self.page, self.point(corner), self.point(opposite))?;
         }
+        for bound in Bound::ALL {
+            self.draw_limits(bound)?;
+        }
         let steps = self.points(&steps(self.picture.budgets));
         marks::budget_steps(self.page, &steps, self.picture.frames())
+    }
+
+    /// Draws a bound along the frames that have it, as far as the plot reaches.
+    fn draw_limits(&self, bound: Bound) -> Drawn {
+        let range = self.plot.get_y_range();
+        let [(_, top), (_, bottom)] = [range.end, range.start].map(|edge| self.level(edge).0);
+        let limits = self.picture.limits(bound).into_iter();
+        let limits: Vec<_> = limits.map(|limit| limit.filter(|&limit| self.reaches(limit))).collect();
+        let frames = self.picture.frames();
+        let mut runs = runs(&limits).into_iter();
+        runs.try_for_each(|run| marks::limit(self.page, bound, &self.points(&run), top..=bottom, frames))
     }
 
     /// The charge at the start and at the end of each frame.
@@ -212,9 +227,26 @@ fn sides(frame: usize, frames: usize) -> (f64, f64) {
 
 /// The ends of a step for each value.
 fn steps(values: &[u32]) -> Vec<Spot> {
-    let step = |(frame, &value): (usize, &u32)| {
-        let (left, right) = (frame as f64 - 0.5, frame as f64 + 0.5);
-        [(left, f64::from(value)), (right, f64::from(value))]
-    };
-    (1..).zip(values).flat_map(step).collect()
+    (1..)
+        .zip(values)
+        .flat_map(|(frame, &value)| step(frame, value.into()))
+        .collect()
+}
+
+/// The ends of a frame's step.
+fn step(frame: usize, watt_hours: f64) -> [Spot; 2] {
+    [(frame as f64 - 0.5, watt_hours), (frame as f64 + 0.5, watt_hours)]
+}
+
+/// The ends of the steps of neighbouring frames that have a limit, one list for each such run of frames.
+fn runs(limits: &[Option<f64>]) -> Vec<Vec<Spot>> {
+    let mut runs = vec![Vec::new()];
+    for (frame, limit) in (1..).zip(limits) {
+        match limit {
+            Some(limit) => runs.last_mut().expect("a run").extend(step(frame, *limit)),
+            None => runs.push(Vec::new()),
+        }
+    }
+    runs.retain(|run| !run.is_empty());
+    runs
 }

@@ -1,6 +1,7 @@
 //! The scales of the axes: what they span and where their numbers stand.
 
 use super::{Picture, LETTER};
+use crate::request::Bound;
 use plotters::coord::ranged1d::{DefaultFormatting, KeyPointHint};
 use plotters::prelude::Ranged;
 use std::iter::successors;
@@ -13,7 +14,7 @@ const HALF_A_DAY: usize = 48;
 /// The characters for which the frame axis has room, two of them blank after each number.
 const FRAME_AXIS_CHARACTERS: usize = 110;
 const MOST_WATT_HOUR_STEPS: f64 = 8.0;
-/// A line joins the charges where it makes the picture at most so many times as high.
+/// A line joins the charges or the energies where it makes the picture at most so many times as high.
 const REACH: f64 = 4.0;
 
 /// What an axis spans and where it has numbers.
@@ -40,16 +41,16 @@ impl Scale {
         let high = charges().fold(f64::from(picture.start), f64::max);
         let needed = picture.needed.unwrap_or(0) as f64;
         let lines = [f64::from(picture.capacity), f64::from(picture.end), needed];
-        let lowest = lines.into_iter().filter(|&line| line > 0.0).fold(f64::MAX, f64::min);
-        let height = if high > low { high - low } else { lowest };
-        let near = lines.into_iter().filter(|&line| line <= low + REACH * height);
-        Scale::of_watt_hours(low, near.fold(high, f64::max))
+        Scale::of_watt_hours(low, with_near(&lines, low, high))
     }
 
-    /// Takes in every harvest and every budget.
+    /// Takes in every harvest and every budget, and the bounds that do not squash these.
     pub fn of_energy(picture: &Picture<'_>) -> Scale {
-        let most = picture.harvest.iter().chain(picture.budgets).max();
-        Scale::of_watt_hours(0.0, most.map_or(0.0, |&most| f64::from(most)))
+        let energies = picture.harvest.iter().chain(picture.budgets);
+        let high = energies.max().map_or(0.0, |&most| f64::from(most));
+        let bounds = Bound::ALL.into_iter().flat_map(|bound| picture.limits(bound));
+        let lines: Vec<f64> = bounds.flatten().collect();
+        Scale::of_watt_hours(0.0, with_near(&lines, 0.0, high))
     }
 
     /// From `low`, at most 0, to `high`, at least 0, with some room beyond.
@@ -97,6 +98,15 @@ impl Ranged for Scale {
     fn range(&self) -> Range<f64> {
         self.range.clone()
     }
+}
+
+/// The top of a picture from `low` to `high` with the lines that make it at most `REACH` times as high.
+fn with_near(lines: &[f64], low: f64, high: f64) -> f64 {
+    let lines = || lines.iter().copied();
+    let lowest = lines().filter(|&line| line > 0.0).fold(f64::MAX, f64::min);
+    let height = if high > low { high - low } else { lowest };
+    let near = lines().filter(|&line| line <= low + REACH * height);
+    near.fold(high, f64::max)
 }
 
 /// The smallest step with which the numbers of the frames have room on their axis.

@@ -26,8 +26,9 @@ pub fn run(command: &Command) -> Result<(), Failure> {
 }
 
 fn needed(request: &RequestArguments) -> Result<(), Failure> {
-    let Request { figures, harvest } = request.read()?.without_capacity()?;
-    let needed = Linked.needed(figures, &harvest)?;
+    let Request { figures, frames } = request.read()?.without_capacity()?;
+    let needed = Linked.needed(figures, frames.lent());
+    let needed = needed.map_err(|refusal| frames.refused(refusal))?;
     print(&format!("needed capacity {needed} Wh\n"))
 }
 

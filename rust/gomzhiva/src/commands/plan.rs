@@ -15,13 +15,14 @@ pub fn run(arguments: &PlanArguments) -> Result<(), Failure> {
         return listing(draft);
     }
     let request = draft.request()?;
-    let mut budgets = vec![0; request.harvest.len()];
-    Linked.plan(request.figures, &request.harvest, &mut budgets)?;
+    let mut budgets = vec![0; request.frames.harvest.len()];
+    let planned = Linked.plan(request.figures, request.frames.lent(), &mut budgets);
+    planned.map_err(|refusal| request.frames.refused(refusal))?;
     let plan = Budgets::trace(&request, budgets)?;
     let shown = Shown {
         title: &format!("Plan of {}", arguments.request.request.input_name()),
         words: &summary(&request, &plan)?,
-        warning: None,
+        warnings: &[],
         inputs: &[&arguments.request.request],
     };
     plan.show(&arguments.report, &shown)
@@ -29,6 +30,7 @@ pub fn run(arguments: &PlanArguments) -> Result<(), Failure> {
 
 /// Prints document 01's listing, from the proved entry.
 fn listing(mut draft: Draft) -> Result<(), Failure> {
+    let frames = draft.frames.clone();
     let file = match draft.word_file.take() {
         Some(file) => file,
         None => draft.request()?.word_file()?,
@@ -37,7 +39,7 @@ fn listing(mut draft: Draft) -> Result<(), Failure> {
     let length = Linked.listing(&file, &mut text);
     let text = String::from_utf8_lossy(&text[..length]);
     match refusal_in(&text) {
-        Some(refusal) => Err(refusal.into()),
+        Some(refusal) => Err(frames.refused(refusal)),
         None => print(&text),
     }
 }
@@ -53,17 +55,23 @@ fn refusal_in(listing: &str) -> Option<Refusal> {
 /// The plan in words.
 fn summary(request: &Request, plan: &Budgets<'_>) -> Result<String, Failure> {
     let figures = request.figures;
-    let needed = Linked.needed(figures, &request.harvest)?;
+    let needed = Linked.needed(figures, request.frames.lent())?;
+    let serves = format!("a capacity of {needed} Wh would serve every curve as well as unlimited storage");
+    let bounded = if request.frames.is_bounded() {
+        "within the bounds, "
+    } else {
+        ""
+    };
     Ok(format!(
         "{}\n\
-         The charge goes from {} to {} Wh, and is at most {} Wh after a frame, of a capacity of {} Wh.\n\
-         A capacity of {needed} Wh would serve every curve as well as unlimited storage.\n\
+         {}, and is at most {} Wh after a frame, of a capacity of {} Wh.\n\
+         {}.\n\
          {}.",
         plan.energies(),
-        figures.start,
-        plan.last_charge(),
+        plan.course(),
         plan.charges.iter().max().unwrap_or(&0),
         figures.capacity,
+        capitalised(&format!("{bounded}{serves}")),
         capitalised(&worth(&plan.budgets)?),
     ))
 }

@@ -7,7 +7,7 @@ use crate::cli::{JournalArguments, OutputArguments, ShiftCommand};
 use crate::failure::Failure;
 use crate::files::print;
 use crate::journal::{Journal, Purpose, Running};
-use crate::report::{capitalised, column, counted, ending, frames, lost, mean, sum, Table};
+use crate::report::{bound_columns, capitalised, column, counted, ending, frames, lost, mean, sum, Table};
 use crate::request::{Request, RequestArguments};
 use crate::streams::tell;
 use energy::{Energy, Figures, Linked, Refusal, Rest, Shift};
@@ -91,15 +91,18 @@ fn standing(shift: &Shift) -> String {
 }
 
 fn show(running: &Running, csv: bool) -> Result<(), Failure> {
-    let table = Table {
-        columns: vec![
-            ("frame", frames(0, running.recorded.len())),
-            ("harvest", column(&running.column(|r| r.harvest))),
-            ("use", column(&running.column(|r| r.used))),
-            ("charge", column(&running.column(|r| r.charge))),
-            ("loss", column(&running.column(|r| r.loss))),
-        ],
-    };
+    let recorded = running.recorded_frames();
+    let mut columns = vec![
+        ("frame", frames(0, recorded.harvest.len())),
+        ("harvest", column(&recorded.harvest)),
+    ];
+    columns.extend(bound_columns(&recorded));
+    columns.extend([
+        ("use", column(&running.column(|r| r.used))),
+        ("charge", column(&running.column(|r| r.charge))),
+        ("loss", column(&running.column(|r| r.loss))),
+    ]);
+    let table = Table { columns };
     if !csv {
         return print(&format!("{}\n{}\n", table.aligned(), standing(&running.shift)));
     }
@@ -113,7 +116,7 @@ fn plan(running: &Running, csv: bool) -> Result<(), Failure> {
     let request = rest_request(running);
     let traced = Budgets::trace(&request, budgets)?;
     let table = traced.table(running.shift.now.recorded);
-    let words = rest_words(rest, running, &traced);
+    let words = rest_words(rest, &traced);
     if !csv {
         return print(&format!("{}\n{words}\n", table.aligned()));
     }
@@ -131,22 +134,25 @@ fn rest_request(running: &Running) -> Request {
             start: now.charge,
             end: terms.end,
         },
-        harvest: running.rest_harvest().to_vec(),
+        frames: running.rest_frames(),
     }
 }
 
 /// The plan of the rest in words.
-fn rest_words(rest: Rest, running: &Running, traced: &Budgets<'_>) -> String {
-    let Figures { start, end, .. } = traced.request.figures;
+fn rest_words(rest: Rest, traced: &Budgets<'_>) -> String {
+    let end = traced.request.figures.end;
     let left = counted(traced.budgets.len(), "frame");
     match rest {
         Rest::Planned => format!(
-            "{left} left: {} Wh expected, {} Wh budgeted (mean {}), {}. The charge goes from {start} to {} Wh.",
-            sum(running.rest_harvest()),
+            "{left} left: {} Wh expected, {} Wh budgeted (mean {}), {}. {}.",
+            sum(&traced.request.frames.harvest),
             sum(&traced.budgets),
             mean(&traced.budgets),
             lost(&traced.losses),
-            traced.last_charge(),
+            traced.course(),
+        ),
+        Rest::Short { missing: 0 } => format!(
+            "Short: nothing within the bounds of the {left} left is feasible, so every budget is 0; with nothing used, the end charge of {end} Wh is reached."
         ),
         Rest::Short { missing } => format!(
             "Short: with nothing used in the {left} left, the end charge of {end} Wh is still missed by {missing} Wh, so every budget is 0."
@@ -178,7 +184,7 @@ fn chart(journal: &JournalArguments, output: &OutputArguments) -> Result<(), Fai
             (traced.budgets, traced.charges, traced.losses, short_by(planned))
         }
     };
-    let harvest = [running.column(|r| r.harvest), rest.harvest].concat();
+    let harvest = [running.column(|r| r.harvest), rest.frames.harvest.clone()].concat();
     let recorded = running.recorded.len();
     let title = format!("Shift: {recorded} of {} recorded", counted(harvest.len(), "frame"));
     let picture = Picture {
@@ -186,12 +192,14 @@ fn chart(journal: &JournalArguments, output: &OutputArguments) -> Result<(), Fai
             .iter()
             .fold(title, |title, warning| format!("{title}; {warning}")),
         capacity: rest.figures.capacity,
-        needed: Linked.needed(rest.figures, running.rest_harvest()).ok(),
+        needed: Linked.needed(rest.figures, rest.frames.lent()).ok(),
         start: running.shift.terms.start,
         end: rest.figures.end,
         harvest: &harvest,
+        least: &running.forecast.least,
+        most: &running.forecast.most,
         budgets: &[running.column(|r| r.used), budgets].concat(),
-        charges: &[column(&running.column(|r| r.charge)), charges].concat(),
+        charges: &[running.column(|r| r.charge.into()), charges].concat(),
         losses: &[running.column(|r| r.loss), losses].concat(),
         recorded,
     };
@@ -204,6 +212,7 @@ fn chart(journal: &JournalArguments, output: &OutputArguments) -> Result<(), Fai
 fn short_by(rest: Rest) -> Option<String> {
     match rest {
         Rest::Planned => None,
+        Rest::Short { missing: 0 } => Some("the rest is short: nothing within its bounds is feasible".into()),
         Rest::Short { missing } => Some(format!("the rest is short by {missing} Wh")),
     }
 }

@@ -52,7 +52,7 @@ impl Journal {
     /// Starts a shift in a new journal.
     pub fn start(place: &Place, request: Request) -> Result<Running, Failure> {
         let path = file_of(place)?;
-        let running = Running::start(request.clone())?;
+        let running = Running::start(request.clone()).map_err(|refusal| request.frames.refused(refusal))?;
         let (line, _) = Seal::default().close(&Call::Start(request).to_string());
         files::create(path, line.as_bytes()).map_err(|error| Failure::system(path.display(), &error))?;
         Ok(running)

@@ -2,9 +2,11 @@
 
 mod cells;
 mod fault;
+mod frames;
 mod sheet;
 
 pub use fault::{quoted, Fault};
+pub use frames::{Bound, FrameLists, NO_BOUND};
 
 use crate::failure::Failure;
 use crate::files::{Place, MOST_BYTES};
@@ -37,14 +39,14 @@ pub fn whole_number(text: &str) -> Result<u32, String> {
 #[derive(Clone, Debug, PartialEq, Eq)]
 pub struct Request {
     pub figures: Figures,
-    pub harvest: Vec<u32>,
+    pub frames: FrameLists,
 }
 
 /// A request as it was read: a table alone leaves its figures open.
 #[derive(Debug)]
 pub struct Draft {
     figures: [Option<u32>; FIGURES.len()],
-    pub harvest: Vec<u32>,
+    pub frames: FrameLists,
     /// The word file itself, where the request is just what it holds.
     pub word_file: Option<Vec<u8>>,
     name: String,
@@ -75,7 +77,7 @@ impl RequestArguments {
 
 impl Draft {
     /// These figures, or a fault that names those that are missing.
-    fn take<const N: usize>(self, which: [usize; N]) -> Result<([u32; N], Vec<u32>), Failure> {
+    fn take<const N: usize>(self, which: [usize; N]) -> Result<([u32; N], FrameLists), Failure> {
         let missing: Vec<&str> = which
             .iter()
             .filter(|&&which| self.figures[which].is_none())
@@ -86,22 +88,22 @@ impl Draft {
             let expected = format!("{names} (as lines before the table, or as options such as --{first} 5)");
             return Err(self.sheet.lacks(expected).of(&self.name));
         }
-        Ok((which.map(|which| self.figures[which].unwrap_or_default()), self.harvest))
+        Ok((which.map(|which| self.figures[which].unwrap_or_default()), self.frames))
     }
 
     /// What the needed capacity depends on: the request with any capacity, here 0.
     pub fn without_capacity(self) -> Result<Request, Failure> {
-        let ([start, end], harvest) = self.take([START, END])?;
+        let ([start, end], frames) = self.take([START, END])?;
         let capacity = 0;
         let figures = Figures { capacity, start, end };
-        Ok(Request { figures, harvest })
+        Ok(Request { figures, frames })
     }
 
     /// The whole request.
     pub fn request(self) -> Result<Request, Failure> {
-        let ([capacity, start, end], harvest) = self.take([CAPACITY, START, END])?;
+        let ([capacity, start, end], frames) = self.take([CAPACITY, START, END])?;
         let figures = Figures { capacity, start, end };
-        Ok(Request { figures, harvest })
+        Ok(Request { figures, frames })
     }
 }
 
@@ -115,20 +117,23 @@ impl Request {
     /// The word file, from the proved writer.
     pub fn word_file(&self) -> Result<Vec<u8>, Failure> {
         let mut file = vec![0; MAX_FILE_BYTES];
-        let length = Linked.write(self.figures, &self.harvest, &mut file)?;
-        file.truncate(length);
+        let length = Linked.write(self.figures, self.frames.lent(), &mut file);
+        file.truncate(length.map_err(|refusal| self.frames.refused(refusal))?);
         Ok(file)
     }
 
-    /// The request as text.
+    /// The request as text, with a column for each bound that some frame has.
     pub fn text(&self) -> String {
         let mut text = String::new();
         for (name, value) in FIGURES.iter().zip(in_order(self.figures)) {
             text += &format!("{name} {value}\n");
         }
-        text += "harvest\n";
-        for harvest in &self.harvest {
-            text += &format!("{harvest}\n");
+        let bounds = self.frames.bounds();
+        let names = bounds.iter().map(|bound| format!(" {}", bound.name()));
+        text += &format!("harvest{}\n", names.collect::<String>());
+        for (frame, harvest) in self.frames.harvest.iter().enumerate() {
+            let cell = |bound: &Bound| format!(" {}", bound.text(self.frames.list(*bound)[frame]));
+            text += &format!("{harvest}{}\n", bounds.iter().map(cell).collect::<String>());
         }
         text
     }
@@ -159,15 +164,17 @@ fn is_word_file(bytes: &[u8]) -> bool {
 }
 
 fn from_words(bytes: Vec<u8>, name: String) -> Result<Draft, Failure> {
-    let mut harvest = vec![0; MAX_FRAMES];
-    let read = Linked.read(&bytes, &mut harvest).map_err(|refusal| {
-        let why = format!("{name} has a byte 0 and so is no text (a spreadsheet is read as CSV in UTF-8)");
-        Failure::from(refusal).with(&why)
-    })?;
-    harvest.truncate(read.frames);
+    let [mut harvest, mut least, mut most] = [(); 3].map(|()| vec![0; MAX_FRAMES]);
+    let read = Linked
+        .read(&bytes, &mut harvest, &mut least, &mut most)
+        .map_err(|refusal| {
+            let why = format!("{name} has a byte 0 and so is no text (a spreadsheet is read as CSV in UTF-8)");
+            Failure::from(refusal).with(&why)
+        })?;
+    let [harvest, least, most] = [harvest, least, most].map(|list| list[..read.frames].to_vec());
     Ok(Draft {
         figures: in_order(read.figures).map(Some),
-        harvest,
+        frames: FrameLists { harvest, least, most },
         word_file: Some(bytes),
         name,
         sheet: Sheet::default(),
@@ -178,9 +185,10 @@ fn from_text(bytes: &[u8], name: String) -> Result<Draft, Failure> {
     let text = text_of(bytes, &name)?;
     let mut sheet = sheet::parse(&text).map_err(|fault| fault.of(&name))?;
     let harvest = sheet.list(HARVEST).map_err(|fault| fault.of(&name))?;
+    let [least, most] = Bound::ALL.map(|bound| sheet.bounds(bound, harvest.len()));
     Ok(Draft {
         figures: sheet.figures(),
-        harvest,
+        frames: FrameLists { harvest, least, most },
         word_file: None,
         name,
         sheet,

@@ -4,6 +4,7 @@
 
 use super::cells::{count_lines, lines, plain, Cell, Line, Row, Separator};
 use super::fault::{quoted, Fault, END_OF_LINE};
+use super::frames::{Bound, NO_BOUND};
 
 /// A figure that stands once in a request, by its name.
 pub const FIGURES: [&str; 3] = ["capacity", "start", "end"];
@@ -11,9 +12,11 @@ pub const CAPACITY: usize = 0;
 pub const START: usize = 1;
 pub const END: usize = 2;
 
-/// A column of the table of frames: a list of numbers, or what only people read.
-pub const COLUMNS: [(&str, Kind); 7] = [
+/// A column of the table of frames: a list of numbers, a bound that a frame may have, or what only people read.
+pub const COLUMNS: [(&str, Kind); 9] = [
     ("harvest", Kind::List(HARVEST)),
+    (Bound::Least.name(), Kind::Bound(Bound::Least)),
+    (Bound::Most.name(), Kind::Bound(Bound::Most)),
     ("budget", Kind::List(BUDGET)),
     ("frame", Kind::Skipped),
     ("time", Kind::Skipped),
@@ -28,6 +31,7 @@ const LISTS: usize = 2;
 #[derive(Clone, Copy, Debug, PartialEq, Eq)]
 pub enum Kind {
     List(usize),
+    Bound(Bound),
     Skipped,
 }
 
@@ -36,6 +40,7 @@ pub enum Kind {
 pub struct Sheet {
     figures: [Option<(u32, usize)>; FIGURES.len()],
     lists: [Option<Vec<u32>>; LISTS],
+    bounds: [Option<Vec<u32>>; Bound::ALL.len()],
     table: Option<Fault>,
     end_line: usize,
 }
@@ -50,6 +55,12 @@ impl Sheet {
     pub fn list(&mut self, which: usize) -> Result<Vec<u32>, Fault> {
         let expected = || format!("a table with the column '{}'", column_name(which));
         self.lists[which].take().ok_or_else(|| self.lacks(expected()))
+    }
+
+    /// The list of a bound; where the text has no such column, none of so many frames has it.
+    pub fn bounds(&mut self, bound: Bound, frames: usize) -> Vec<u32> {
+        let listed = self.bounds[bound as usize].take();
+        listed.unwrap_or_else(|| vec![bound.absent(); frames])
     }
 
     /// The fault of a text that has something else at the beginning of its table, or no table.
@@ -147,8 +158,10 @@ fn open_table(sheet: &mut Sheet, line: &Line<'_>) -> Result<Table, Fault> {
     sheet.table = Some(unlike(&names, 0, ""));
     let columns: Vec<Kind> = places.into_iter().map(|place| COLUMNS[place].1).collect();
     for column in &columns {
-        if let Kind::List(list) = column {
-            sheet.lists[*list] = Some(Vec::new());
+        match column {
+            Kind::List(list) => sheet.lists[*list] = Some(Vec::new()),
+            Kind::Bound(bound) => sheet.bounds[*bound as usize] = Some(Vec::new()),
+            Kind::Skipped => {}
         }
     }
     Ok(Table {
@@ -203,10 +216,12 @@ fn put_frame(sheet: &mut Sheet, table: &Table, row: &Row<'_>) -> Result<(), Faul
         return Err(unlike(row, row.cells.len(), "a cell for each column"));
     }
     for (i, column) in columns.iter().enumerate() {
-        if let Kind::List(list) = column {
-            let value = number(row, i)?;
-            sheet.lists[*list].get_or_insert_with(Vec::new).push(value);
-        }
+        let (list, value) = match column {
+            Kind::List(list) => (&mut sheet.lists[*list], number(row, i)?),
+            Kind::Bound(bound) => (&mut sheet.bounds[*bound as usize], limit(row, i, *bound)?),
+            Kind::Skipped => continue,
+        };
+        list.get_or_insert_with(Vec::new).push(value);
     }
     if row.cells.len() > table.width {
         let expected = match table.separator {
@@ -245,6 +260,15 @@ pub fn bare_numbers(text: &str) -> Result<Option<Vec<u32>>, Fault> {
 fn number(line: &Row<'_>, i: usize) -> Result<u32, Fault> {
     let text = line.cells.get(i).map_or("", |cell| cell.text);
     whole_number(text).ok_or_else(|| unlike(line, i, &format!("a whole number up to {}", u32::MAX)))
+}
+
+/// The bound in a line's cell, as a list has it; where the cell is empty or missing, the frame does not have it.
+fn limit(line: &Row<'_>, i: usize, bound: Bound) -> Result<u32, Fault> {
+    let text = line.cells.get(i).map_or("", |cell| cell.text);
+    if text.is_empty() || text == NO_BOUND {
+        return Ok(bound.absent());
+    }
+    whole_number(text).ok_or_else(|| unlike(line, i, &format!("a whole number up to {} or '{NO_BOUND}'", u32::MAX)))
 }
 
 /// The whole number of 32 bits that a text is, digits alone.
@@ -288,6 +312,13 @@ mod tests {
         (sheet.figures(), harvest)
     }
 
+    /// The leasts and the mosts of a text.
+    fn bounds(text: &str) -> [Vec<u32>; 2] {
+        let mut sheet = parse(text).unwrap();
+        let frames = sheet.list(HARVEST).unwrap().len();
+        Bound::ALL.map(|bound| sheet.bounds(bound, frames))
+    }
+
     fn fault(text: &str) -> String {
         let listed = parse(text).and_then(|mut sheet| sheet.list(HARVEST));
         listed.unwrap_err().to_string()
@@ -314,6 +345,48 @@ mod tests {
         assert_eq!(said("frame harvest\n1 6 #noon\n\n2 4\n").1, [6, 4]);
         assert_eq!(said("\"\"\n\"harvest\",\"\"\n\"6\",\"\"\n\"\",\"\"\n").1, [6]);
         assert_eq!(said("\"capacity\",\"5\",\"\"\n\tharvest\n\t6\n").1, [6]);
+    }
+
+    #[test]
+    fn bounds_may_be_there_or_not() {
+        let (none, both) = (u32::MAX, [vec![0, 3], vec![5, u32::MAX]]);
+        for text in [
+            "harvest least most\n6 - 5\n4 3 -\n",
+            "harvest,least,most\n6,,5\n4,3,\n",
+            "harvest;least;most\n6;;5\n4;3\n",
+            "harvest\tleast\tmost\n6\t-\t5\n4\t3\t\n",
+            "most,least,time,harvest\n5,0,noon,6\n4294967295, 3 ,,4\n",
+            "MOST,Least,harvest\n\"5\",\"\",6\n\"-\",3,4\n,,\n",
+            "least most harvest\n\"\" 5 6\n3 \"-\" 4\n",
+        ] {
+            assert_eq!(bounds(text), both, "{text:?}");
+        }
+        assert_eq!(bounds("harvest\n6\n4\n"), [vec![0, 0], vec![none, none]]);
+        assert_eq!(bounds("harvest least\n6 3\n"), [vec![3], vec![none]]);
+        assert_eq!(bounds("most harvest\n0 6\n"), [vec![0], vec![0]]);
+        // Cells that are missing behind the last one that is there, as spreadsheets save them.
+        assert_eq!(bounds("harvest,least,most\n6\n4,3\n"), [vec![0, 3], vec![none, none]]);
+        assert_eq!(bounds("harvest,least\n6,4294967295\n"), [vec![none], vec![none]]);
+        let bound = "a whole number up to 4294967295 or '-' is expected, found";
+        assert_eq!(fault("harvest,least\n6,x\n"), format!("2:3: {bound} 'x'"));
+        assert_eq!(fault("harvest most\n6 --\n"), format!("2:3: {bound} '--'"));
+        assert_eq!(fault("harvest most\n6 -1\n"), format!("2:3: {bound} '-1'"));
+        assert_eq!(
+            fault("harvest most\n6 4294967296\n"),
+            format!("2:3: {bound} '4294967296'")
+        );
+        let number = "a whole number up to 4294967295 is expected, found";
+        assert_eq!(fault("harvest,least\n-,3\n"), format!("2:1: {number} '-'"));
+        assert_eq!(
+            fault("least,harvest\n3\n"),
+            format!("2:2: {number} the end of the line")
+        );
+        let each = "a cell for each column is expected, found the end of the line";
+        assert_eq!(fault("harvest least most\n6 3\n"), format!("2:4: {each}"));
+        assert_eq!(
+            fault("least,most\n3,4\n"),
+            "1:1: a table with the column 'harvest' is expected, found 'least'"
+        );
     }
 
     #[test]
@@ -387,12 +460,13 @@ mod tests {
             "2:3: the end of the line is expected, found nothing"
         );
         assert_eq!(fault("harvest\t\n6\t\n\t7\n"), format!("3:1: {number} nothing"));
-        let names = "a figure (capacity, start, end) or a column (harvest, budget, frame, time, charge, use, loss)";
+        let names =
+            "a figure (capacity, start, end) or a column (harvest, least, most, budget, frame, time, charge, use, loss)";
         assert_eq!(fault("harvst\n6"), format!("1:1: {names} is expected, found 'harvst'"));
         assert_eq!(fault("5\n6"), format!("1:1: {names} is expected, found '5'"));
         assert_eq!(
             fault("harvest,harvest\n"),
-            "1:9: a column (budget, frame, time, charge, use, loss) is expected, found 'harvest'"
+            "1:9: a column (least, most, budget, frame, time, charge, use, loss) is expected, found 'harvest'"
         );
         let table = "a table with the column 'harvest' is expected, found the end of the text";
         assert_eq!(fault(""), format!("1:1: {table}"));

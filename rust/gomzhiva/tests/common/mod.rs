@@ -1,7 +1,8 @@
 //! The built program, run as a person would run it, in a folder of its own.
 #![allow(dead_code)] // each test file uses a part
 
-use energy::{Energy, Figures, Shift, Totals};
+use energy::{Energy, Figures, Frames, Shift, Totals, NO_UPPER_END};
+use evidence::lists::Lists;
 use evidence::reference::Reference;
 use proptest::prelude::*;
 use proptest::test_runner::{RngAlgorithm, TestRng, TestRunner};
@@ -32,12 +33,53 @@ pub fn day_words() -> Vec<u8> {
     words.iter().flat_map(|word: &u32| word.to_le_bytes()).collect()
 }
 
-/// A request as text, as `text` prints it.
+/// A request without bounds as text, as `text` prints it.
 pub fn request_text(capacity: u32, start: u32, end: u32, harvest: &[u32]) -> String {
-    format!(
-        "capacity {capacity}\nstart {start}\nend {end}\nharvest\n{}",
-        column(harvest)
+    bounded_text(
+        Figures { capacity, start, end },
+        Lists::unbounded(harvest.to_vec()).frames(),
     )
+}
+
+/// A request as text, as `text` prints it.
+pub fn bounded_text(figures: Figures, frames: Frames) -> String {
+    let Figures { capacity, start, end } = figures;
+    let bounds = Bounds::of(frames);
+    let mut text = format!(
+        "capacity {capacity}\nstart {start}\nend {end}\nharvest{}\n",
+        bounds.names(" ")
+    );
+    for (frame, harvest) in frames.harvest.iter().enumerate() {
+        text += &format!("{harvest}{}\n", bounds.cells(frame, " ", "-"));
+    }
+    text
+}
+
+/// The bounds that some frame has: the name of each, and the list with nothing where a frame does not have it.
+pub struct Bounds(Vec<(&'static str, Vec<Option<u32>>)>);
+
+impl Bounds {
+    pub fn of(frames: Frames) -> Bounds {
+        let given = |list: &[u32], none: u32| list.iter().map(|&n| (n != none).then_some(n)).collect();
+        let bounds: [(_, Vec<_>); 2] = [
+            ("least", given(frames.least, 0)),
+            ("most", given(frames.most, NO_UPPER_END)),
+        ];
+        let some = |(_, list): &(_, Vec<Option<u32>>)| list.iter().any(Option::is_some);
+        Bounds(bounds.into_iter().filter(some).collect())
+    }
+
+    /// The names, each behind a separator.
+    pub fn names(&self, separator: &str) -> String {
+        self.0.iter().map(|(name, _)| format!("{separator}{name}")).collect()
+    }
+
+    /// A frame's cells, each behind a separator.
+    pub fn cells(&self, frame: usize, separator: &str, none: &str) -> String {
+        let cell = |cell: Option<u32>| cell.map_or(none.to_string(), |number| number.to_string());
+        let cells = self.0.iter().map(|(_, list)| cell(list[frame]));
+        cells.map(|cell| format!("{separator}{cell}")).collect()
+    }
 }
 
 /// A line for each number.
@@ -68,28 +110,41 @@ pub fn standing(shift: &Shift) -> String {
 }
 
 /// The table of budgets as CSV, with the reference's charges and losses; its first frame is the one after `before`.
-pub fn budget_table(before: u32, figures: Figures, harvest: &[u32], budgets: &[u32]) -> String {
+pub fn budget_table(before: u32, figures: Figures, frames: Frames, budgets: &[u32]) -> String {
+    let (harvest, bounds) = (frames.harvest, Bounds::of(frames));
     let (mut charges, mut losses) = (vec![0; harvest.len()], vec![0; harvest.len()]);
     let traced = Reference.trace(figures, harvest, budgets, &mut charges, &mut losses);
     traced.expect("budgets that can be traced");
-    let mut text = "frame,harvest,budget,charge,loss\n".to_string();
+    let mut text = format!("frame,harvest{},budget,charge,loss\n", bounds.names(","));
     for (i, frame) in (0..harvest.len()).zip(before + 1..) {
-        text += &format!("{frame},{},{},{},{}\n", harvest[i], budgets[i], charges[i], losses[i]);
+        let given = format!("{}{}", harvest[i], bounds.cells(i, ",", ""));
+        text += &format!("{frame},{given},{},{},{}\n", budgets[i], charges[i], losses[i]);
     }
     text
 }
 
-/// The row of the frame that leads from one record to the next, as `shift show --csv` prints it.
-pub fn recorded_row(before: &Shift, after: &Shift) -> String {
-    let (old, new) = (before.now.totals, after.now.totals);
-    format!(
-        "{},{},{},{},{}\n",
-        after.now.recorded,
-        new.harvested - old.harvested,
-        new.used - old.used,
-        after.now.charge,
-        new.lost - old.lost
-    )
+/// The frames that lead from each record to the next, as `shift show --csv` prints them.
+pub fn recorded_table(records: &[Shift], frames: Frames) -> String {
+    let count = records.len() - 1;
+    let bounds = Bounds::of(Frames {
+        harvest: &frames.harvest[..count],
+        least: &frames.least[..count],
+        most: &frames.most[..count],
+    });
+    let mut text = format!("frame,harvest{},use,charge,loss\n", bounds.names(","));
+    for (frame, pair) in records.windows(2).enumerate() {
+        let (old, new) = (pair[0].now.totals, pair[1].now.totals);
+        text += &format!(
+            "{},{}{},{},{},{}\n",
+            frame + 1,
+            new.harvested - old.harvested,
+            bounds.cells(frame, ",", ""),
+            new.used - old.used,
+            pair[1].now.charge,
+            new.lost - old.lost
+        );
+    }
+    text
 }
 
 /// Checks a property of so many values, the same ones in each run: ENERGY_SEED names others.

@@ -6,10 +6,10 @@ use Rattle.blocks.proofs.trial.share.Statement.{statement}
 use Rattle.blocks.proofs.trial.share.Tie as tie
 
 abbrev Inv-loop : tie.InvT-loop
-Inv-loop rule harvest block floor roof s₀ to k₀ s k = to ≤ length harvest
+Inv-loop rule harvest least most block floor roof s₀ to k₀ s k = to ≤ length harvest
 
 abbrev μ-loop : tie.MeasureT-loop
-μ-loop rule harvest block floor roof s₀ to k₀ s k = to - k
+μ-loop rule harvest least most block floor roof s₀ to k₀ s k = to - k
 
 pub share-spec : {M : Type 1} → statement M
 share-spec =

@@ -7,10 +7,11 @@ use Rattle.blocks.proofs.weigh.weigh_block.Statement.{statement}
 use Rattle.blocks.proofs.weigh.weigh_block.Tie as tie
 
 abbrev Inv-loop : tie.InvT-loop
-Inv-loop rule harvest block level marks₀ w₀ k₀ marks w k = (length marks ≡ length marks₀) × (k ≤ length harvest)
+Inv-loop rule harvest least most block level marks₀ w₀ k₀ marks w k =
+    (length marks ≡ length marks₀) × (k ≤ length harvest)
 
 abbrev μ-loop : tie.MeasureT-loop
-μ-loop rule harvest block level marks₀ w₀ k₀ marks w k = k
+μ-loop rule harvest least most block level marks₀ w₀ k₀ marks w k = k
 
 pub weigh-block-spec : {M : Type 1} → statement M
 weigh-block-spec =

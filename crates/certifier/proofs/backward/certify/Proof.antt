@@ -16,25 +16,25 @@ use Rattle.certifier.proofs.backward.certify.Statement.{statement}
 use Rattle.certifier.proofs.backward.certify.Tie as tie
 
 abbrev Inv-loop : tie.InvT-loop
-Inv-loop rule harvest start levels after₀ w₀ k₀ after w k =
+Inv-loop rule harvest least most start levels after₀ w₀ k₀ after w k =
     (k ≤ length harvest) × (length after ≡ length after₀) × Light w
-    × law.Holds (rule .end) (frames rule harvest) k levels (w .level) (w .low) (w .high) (w .gap)
-    × CourseFrom (rule .end) (frames rule harvest) k levels after
+    × law.Holds (rule .end) (frames rule harvest least most) k levels (w .level) (w .low) (w .high) (w .gap)
+    × CourseFrom (rule .end) (frames rule harvest least most) k levels after
 
 abbrev μ-loop : tie.MeasureT-loop
-μ-loop rule harvest start levels after₀ w₀ k₀ after w k = k
+μ-loop rule harvest least most start levels after₀ w₀ k₀ after w k = k
 
 loop-holds : tie.Need-loop-holds Inv-loop μ-loop
 loop-holds c =
-    let s = c .before .before .before .before in
+    let s = c .before .before .before .before .before .before in
     let a = s .args in
-    let fs = frames (a .rule) (a .harvest .now) in
+    let fs = frames (a .rule) (a .harvest .now) (a .least .now) (a .most .now) in
     let n = length (a .harvest .now) in
-    let past = frames-past (a .rule) (a .harvest .now) n (omega arith) in
+    let past = frames-past (a .rule) (a .harvest .now) (a .least .now) (a .most .now) n (omega arith) in
     let w = c .past .ensures in (
       omega arith,
       refl,
-      record { low-fits = omega (arith, w, s .pre .0 .end-fits); high-fits = omega (arith, w, s .pre .0 .end-fits) },
+      record { low-fits = omega (arith, w, s .pre .0 .small .end-fits); high-fits = omega (arith, w, s .pre .0 .small .end-fits) },
       rw (w .0, w .1, w .2, w .3) (law.past (a .rule .end) fs n (a .levels .now) past),
       law.past-course (a .rule .end) fs n (a .levels .now) (a .after .now) past,
     )
@@ -59,6 +59,13 @@ place-fits c = search needs
 mul-after : tie.Need-mul-after Inv-loop μ-loop
 mul-after c = place-fits (c .before .before .before .before .before .before)
 
+slice-write-after : tie.Need-slice-write-after Inv-loop μ-loop
+slice-write-after c =
+    let test = c .before .before .before .before .before .before in
+    let l = test .before .loop in
+    let s = test .before .before .before .before .before .before .before .before in
+    omega (arith, test .loop-test .taken, l .inv .0, l .inv .1, s .pre .2)
+
 loop-again : tie.Need-loop-again Inv-loop μ-loop
 loop-again c =
     let e = c .before in
@@ -67,9 +74,9 @@ loop-again c =
     let frame = wide .before .before in
     let test = frame .before in
     let l = test .before .loop in
-    let s = test .before .before .before .before .before .before in
+    let s = test .before .before .before .before .before .before .before .before in
     let a = s .args in
-    let fs = frames (a .rule) (a .harvest .now) in
+    let fs = frames (a .rule) (a .harvest .now) (a .least .now) (a .most .now) in
     let k : l .k - 1 + 1 ≡ l .k = omega (arith, test .loop-test .taken) in
     let here : l .k - 1 < length (a .levels .now) = omega (arith, test .loop-test .taken, l .inv .0, s .pre .1) in
     let on = law.weighed-on {e = a .rule .end} {fs = fs} {ls = a .levels .now} (frame .frame-at .result)
@@ -98,5 +105,5 @@ certify-spec =
     tie.close
     (tie.spec Inv-loop μ-loop (λ c κs. search needs) loop-holds (λ c. search needs) (λ c κs. search needs)
     (λ c. search needs) (λ c. search needs) (λ c κs. search needs) weigh-requires (λ c. search needs) returns
-    cast-after mul-after (λ c. search needs) (λ c. search needs) loop-again (λ c κs. search needs)
+    cast-after mul-after slice-write-after (λ c. search needs) loop-again (λ c κs. search needs)
     (λ c. search needs) returns-2)

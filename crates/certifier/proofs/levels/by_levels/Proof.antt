@@ -10,7 +10,7 @@ follow-requires : tie.Need-follow-requires
 follow-requires c κs =
     let t = c .before .before in
     let certified = t .before .before .before .certify .ensures in
-    let lent = t .before .before .before .before .before .before .before .before .before .pre in
+    let lent = t .before .before .before .before .before .before .before .before .before .before .before .pre in
     ((lent .0, lent .1, omega (arith, certified .0, lent .2)), certified .1 (t .if1 .taken))
 
 returns-2 : tie.Need-returns-2

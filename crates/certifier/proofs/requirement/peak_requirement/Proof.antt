@@ -12,22 +12,22 @@ use Rattle.certifier.proofs.requirement.peak_requirement.Statement.{sta
 use Rattle.certifier.proofs.requirement.peak_requirement.Tie as tie
 
 abbrev Inv-loop : tie.InvT-loop
-Inv-loop rule harvest budgets charge₀ top₀ k₀ charge top k =
+Inv-loop rule harvest least most budgets charge₀ top₀ k₀ charge top k =
     (k ≤ length harvest) × (charge ≤ 2 ^ 34 * (length harvest - k + 1)) × law.Required (rule .end)
-    (frames rule harvest) budgets k charge top
+    (frames rule harvest least most) budgets k charge top
 
 abbrev μ-loop : tie.MeasureT-loop
-μ-loop rule harvest budgets charge₀ top₀ k₀ charge top k = k
+μ-loop rule harvest least most budgets charge₀ top₀ k₀ charge top k = k
 
 loop-holds : tie.Need-loop-holds Inv-loop μ-loop
 loop-holds c =
-    let s = c .before .before in
+    let s = c .before .before .before .before in
     let a = s .args in
     let n = length (a .harvest .now) in (
       omega arith,
-      omega (arith, s .pre .0 .end-fits),
-      law.requires-end (a .rule .end) (frames (a .rule) (a .harvest .now)) (a .budgets .now) n
-          (frames-past (a .rule) (a .harvest .now) n (omega arith)),
+      omega (arith, s .pre .0 .small .end-fits),
+      law.requires-end (a .rule .end) (frames (a .rule) (a .harvest .now) (a .least .now) (a .most .now)) (a .budgets .now) n
+          (frames-past (a .rule) (a .harvest .now) (a .least .now) (a .most .now) n (omega arith)),
     )
 
 loop-again : tie.Need-loop-again Inv-loop μ-loop
@@ -37,7 +37,7 @@ loop-again c =
     let frame = top .before in
     let test = frame .before in
     let l = test .before .loop in
-    let s = test .before .before .before .before in
+    let s = test .before .before .before .before .before .before in
     let k : l .k - 1 + 1 ≡ l .k = omega (arith, test .loop-test .taken) in
     let here : l .k - 1 < length (s .args .budgets .now) = omega
     (arith, test .loop-test .taken, l .inv .0, s .pre .1) in

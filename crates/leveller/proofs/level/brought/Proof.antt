@@ -6,10 +6,10 @@ use Rattle.leveller.proofs.level.brought.Statement.{statement}
 use Rattle.leveller.proofs.level.brought.Tie as tie
 
 abbrev Inv-loop : tie.InvT-loop
-Inv-loop rule harvest inflows₀ drains₀ i₀ inflows drains i = i ≤ length harvest
+Inv-loop rule harvest least most inflows₀ drains₀ i₀ inflows drains i = i ≤ length harvest
 
 abbrev μ-loop : tie.MeasureT-loop
-μ-loop rule harvest inflows₀ drains₀ i₀ inflows drains i = length harvest - i
+μ-loop rule harvest least most inflows₀ drains₀ i₀ inflows drains i = length harvest - i
 
 pub brought-spec : {M : Type 1} → statement M
 brought-spec =

@@ -6,10 +6,10 @@ use Rattle.leveller.proofs.level.lasts_at_first.Statement.{statement}
 use Rattle.leveller.proofs.level.lasts_at_first.Tie as tie
 
 abbrev Inv-loop : tie.InvT-loop
-Inv-loop rule harvest start level last charge₀ i₀ charge i = last ≤ length harvest
+Inv-loop rule harvest least most start level last charge₀ i₀ charge i = last ≤ length harvest
 
 abbrev μ-loop : tie.MeasureT-loop
-μ-loop rule harvest start level last charge₀ i₀ charge i = last - i
+μ-loop rule harvest least most start level last charge₀ i₀ charge i = last - i
 
 pub lasts-at-first-spec : {M : Type 1} → statement M
 lasts-at-first-spec =

@@ -3,9 +3,10 @@ use mathlib.Core.Bool.{true}
 use mathlib.Core.Path.{_≡_, sym, ap, _∙_}
 use native.Mathlib.Omega.{arith}
 use Prim.Native.Nat.{ℕ, _-_, _≤_}
+use lib.ListN.{length}
 use borrow.Author.Tests.{not-true, not-false}
 use Rattle.model.specs.Limits.{maxFrames}
-use Rattle.model.specs.Request.{Request, request, frameCount}
+use Rattle.model.specs.Request.{Request, boundedRequest, frameCount}
 use Rattle.model.specs.Refusals.{isNone, planRefusal}
 use Rattle.text.proofs.Written.{wrote-same}
 use Rattle.listing.proofs.Parts as law
@@ -15,18 +16,39 @@ use Rattle.listing.proofs.listings.list_request.Tie as tie
 
 -- the request that is listed
 abbrev asked : tie.Start → Request
-asked a = request (a .args .figures) (a .args .harvest .now)
+asked a = boundedRequest (a .args .figures) (a .args .harvest .now) (a .args .least .now) (a .args .most .now)
 
 -- past the test there is no refusal
 none : (c : tie.Else1) → isNone (c .before .before .plan-refusal .result) ≡ true
 none c = sym (c .before .is-none .ensures) ∙ not-false (c .before .is-none .result) (c .if1 .left)
 
-accepted : (c : tie.Else1) → let q = asked (c .before .before .before .before .before) in
-    isNone (planRefusal q (frameCount q)) ≡ true
-accepted c = sym (ap isNone (c .before .before .plan-refusal .ensures)) ∙ none c
+-- its start
+abbrev start : tie.Else1 → tie.Start
+start c = c .before .before .before .before .before .before .before
 
-few : (c : tie.Else1) → frameCount (asked (c .before .before .before .before .before)) ≤ maxFrames
-few c = let q = asked (c .before .before .before .before .before) in law.accepted q (frameCount q) (accepted c) .few
+accepted : (c : tie.Else1) →
+    let q = asked (start c) in let k = frameCount q in isNone (planRefusal q k k k) ≡ true
+accepted c =
+    let a = start c in
+    let q = asked a in
+    let k = frameCount q in
+    ap isNone (law.lists-alike q (length (a .args .least .now)) (length (a .args .most .now)) k (a .pre .0) (a .pre .1))
+    ∙ (sym (ap isNone (c .before .before .plan-refusal .ensures)) ∙ none c)
+
+few : (c : tie.Else1) → frameCount (asked (start c)) ≤ maxFrames
+few c = let q = asked (start c) in let k = frameCount q in law.accepted q k k k (accepted c) .few
+
+-- the refusal found is that of lists with K entries
+found : (c : tie.After-plan-refusal) →
+    let q = asked (c .before .before .before .before .before) in
+    let k = frameCount q in
+    c .plan-refusal .result ≡ planRefusal q k k k
+found c =
+    let a = c .before .before .before .before .before in
+    let q = asked a in
+    c .plan-refusal .ensures
+    ∙ sym (law.lists-alike q (length (a .args .least .now)) (length (a .args .most .now)) (frameCount q) (a .pre .0)
+    (a .pre .1))
 
 returns : tie.Need-returns
 returns c =
@@ -34,7 +56,7 @@ returns c =
     let t = p .before .before in
     let r = t .before .before in
     wrote-same
-    (law.refused (asked (r .before .before .before)) (r .plan-refusal .result) (r .plan-refusal .ensures)
+    (law.refused (asked (r .before .before .before .before .before)) (r .plan-refusal .result) (found r)
     (sym (t .before .is-none .ensures) ∙ not-true (t .before .is-none .result) (t .if1 .taken)))
     (p .put-refused .ensures)
 
@@ -50,11 +72,14 @@ part-losses-end c = omega (arith, few (c .before .before))
 list-plan-requires : tie.Need-list-plan-requires
 list-plan-requires c κs =
     let e = c .before .before .before .before in
-    let a = e .before .before .before .before .before in
-    let q = asked a in (
-      ap (λ (m : ℕ). isNone (planRefusal q m)) (law.part-long (frameCount q) _ (few e))
-          ∙ accepted e,
-      (law.part-long (frameCount q) _ (few e), law.part-long (frameCount q) _ (few e)),
+    let a = start e in
+    let q = asked a in
+    let k = frameCount q in
+    let l = length (a .args .least .now) in
+    let m = length (a .args .most .now) in (
+      ap (λ (n : ℕ). isNone (planRefusal q l m n)) (law.part-long k _ (few e))
+          ∙ (ap isNone (sym (law.lists-alike q l m k (a .pre .0) (a .pre .1))) ∙ accepted e),
+      (law.part-long k _ (few e), law.part-long k _ (few e)),
     )
 
 returns-2 : tie.Need-returns-2
@@ -63,7 +88,7 @@ returns-2 c =
     let e = p .before .before .before .before .before in
     let r = e .before .before in
     wrote-same
-    (law.listed (asked (r .before .before .before)) (r .plan-refusal .result) (r .plan-refusal .ensures) (none e))
+    (law.listed (asked (r .before .before .before .before .before)) (r .plan-refusal .result) (found r) (none e))
     (p .list-plan .ensures)
 
 pub list-request-spec : {M : Type 1} → statement M

@@ -7,21 +7,38 @@ use Rattle.rest.proofs.refusals.ready_refusal.Tie as tie
 
 returns : tie.Need-returns
 returns c =
-    let s = c .before .before .before .before .before .before .before .before .args in
-    first-cons (c .before .before .before .before .before .before .shift-refusal .ensures)
-    (first-cons (c .before .before .before .before .before .length-refusal .ensures)
-    (first-cons (c .before .before .before .before .length-refusal2 .ensures)
-    (first-last (c .before .before .before .done-refusal .ensures)
+    let second = c .before in
+    let third = second .before in
+    let fourth = third .before in
+    let fifth = fourth .before in
+    let done = fifth .before in
+    let budgets = done .before in
+    let mosts = budgets .before in
+    let leasts = mosts .before in
+    let harvests = leasts .before in
+    let s = harvests .before .before .before .args in
+    first-cons (harvests .before .shift-refusal .ensures)
+    (first-cons (harvests .length-refusal .ensures)
+    (first-cons (leasts .length-refusal2 .ensures)
+    (first-cons (mosts .length-refusal3 .ensures)
+    (first-cons (budgets .length-refusal4 .ensures)
+    (first-last (done .done-refusal .ensures)
     (refuseIf-none (eqb (s .s .now .recorded) (s .s .terms .frames)) 20))
-    (c .before .before .first-of .ensures))
-    (c .before .first-of2 .ensures))
-    (c .first-of3 .ensures)
+    (fifth .first-of .ensures))
+    (fourth .first-of2 .ensures))
+    (third .first-of3 .ensures))
+    (second .first-of4 .ensures))
+    (c .first-of5 .ensures)
 
 pub ready-refusal-spec : {M : Type 1} → statement M
 ready-refusal-spec =
     tie.close
     (tie.spec
     (λ c. search needs)
+    (λ c κs. search needs)
+    (λ c κs. search needs)
+    (λ c κs. search needs)
+    (λ c κs. search needs)
     (λ c κs. search needs)
     (λ c κs. search needs)
     (λ c κs. search needs)

@@ -13,17 +13,18 @@ use Rattle.search.proofs.scan.scan.Statement.{statement}
 use Rattle.search.proofs.scan.scan.Tie as tie
 
 abbrev Inv-loop : tie.InvT-loop
-Inv-loop rule harvest from charge level y₀ k₀ y k =
-    law.Walk (rule .end) (frames rule harvest) from charge level k y × (k ≤ length harvest)
+Inv-loop rule harvest least most from charge level y₀ k₀ y k =
+    law.Walk (rule .end) (frames rule harvest least most) from charge level k y × (k ≤ length harvest)
 
 abbrev μ-loop : tie.MeasureT-loop
-μ-loop rule harvest from charge level y₀ k₀ y k = length harvest - k
+μ-loop rule harvest least most from charge level y₀ k₀ y k = length harvest - k
 
 loop-holds : tie.Need-loop-holds Inv-loop μ-loop
 loop-holds c =
-    let a = c .before .args in
-    let pre = c .before .pre in
-    (law.start (a .rule .end) (frames (a .rule) (a .harvest .now)) (a .from) (a .charge) (a .level) (pre .1), pre .3)
+    let s = c .before .before .before in
+    let a = s .args in
+    let pre = s .pre in
+    (law.start (a .rule .end) (frames (a .rule) (a .harvest .now) (a .least .now) (a .most .now)) (a .from) (a .charge) (a .level) (pre .1), pre .3)
 
 returns : tie.Need-returns Inv-loop μ-loop
 returns c =
@@ -49,10 +50,10 @@ loop-again c =
 returns-3 : tie.Need-returns-3 Inv-loop μ-loop
 returns-3 c =
     let l = c .before .before in
-    let a = l .before .before .args in
+    let a = l .before .before .before .before .args in
     law.ends (l .loop .inv .0) (leb (a .rule .end) (l .loop .y)) (λ z. leb-true (a .rule .end) (l .loop .y) z)
     (λ z. leb-false (a .rule .end) (l .loop .y) z)
-    (frames-past (a .rule) (a .harvest .now) (l .loop .k) (c .before .loop-test .left))
+    (frames-past (a .rule) (a .harvest .now) (a .least .now) (a .most .now) (l .loop .k) (c .before .loop-test .left))
 
 pub scan-spec : {M : Type 1} → statement M
 scan-spec =

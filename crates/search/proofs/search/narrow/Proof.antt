@@ -7,7 +7,7 @@ use Rattle.search.proofs.search.narrow.Tie as tie
 
 returns : tie.Need-returns
 returns c =
-    let s = c .before .before .before .before .before in (
+    let s = c .before .before .before .before .before .before .before in (
       law.accepts (s .pre .4) (omega (arith, s .pre .3)) (omega (arith, s .pre .3)) (c .before .scan .ensures)
           (c .if1 .taken),
       omega (arith, s .pre .3),
@@ -15,7 +15,7 @@ returns c =
 
 returns-2 : tie.Need-returns-2
 returns-2 c =
-    let s = c .before .before .before .before .before in (
+    let s = c .before .before .before .before .before .before .before in (
       law.rejects (s .pre .4) (omega (arith, s .pre .3)) (omega (arith, s .pre .3)) (c .before .scan .ensures)
           (c .if1 .left),
       omega (arith, s .pre .3),

@@ -8,16 +8,16 @@ use Rattle.search.proofs.search.search.Statement.{statement}
 use Rattle.search.proofs.search.search.Tie as tie
 
 abbrev Inv-loop : tie.InvT-loop
-Inv-loop rule harvest next f have at₀ at = BetweenAt rule harvest next f have at
+Inv-loop rule harvest least most next f have at₀ at = BetweenAt rule harvest least most next f have at
 
 abbrev μ-loop : tie.MeasureT-loop
-μ-loop rule harvest next f have at₀ at = at .top - at .good
+μ-loop rule harvest least most next f have at₀ at = at .top - at .good
 
 loop-holds : tie.Need-loop-holds Inv-loop μ-loop
 loop-holds c =
-    let s = c .before .before in
+    let s = c .before .before .before .before in
     let a = s .args in
-    law.whole (a .rule .end) (frames (a .rule) (a .harvest .now)) (a .next) (a .have) (a .f .least) (a .f .most)
+    law.whole (a .rule .end) (frames (a .rule) (a .harvest .now) (a .least .now) (a .most .now)) (a .next) (a .have) (a .f .least) (a .f .most)
     (c .lesser .result)
     (s .pre .3) (s .pre .4) (c .lesser .ensures)
 

@@ -13,17 +13,17 @@ use Rattle.search.proofs.search.search_all.Statement.{statement}
 use Rattle.search.proofs.search.search_all.Tie as tie
 
 abbrev Inv-loop : tie.InvT-loop
-Inv-loop rule harvest start budgets₀ y₀ i₀ budgets y i =
-    Writing (rule .end) (frames rule harvest) (length harvest) start i y budgets
+Inv-loop rule harvest least most start budgets₀ y₀ i₀ budgets y i =
+    Writing (rule .end) (frames rule harvest least most) (length harvest) start i y budgets
 
 abbrev μ-loop : tie.MeasureT-loop
-μ-loop rule harvest start budgets₀ y₀ i₀ budgets y i = length harvest - i
+μ-loop rule harvest least most start budgets₀ y₀ i₀ budgets y i = length harvest - i
 
 loop-holds : tie.Need-loop-holds Inv-loop μ-loop
 loop-holds c =
-    let s = c .before .before in
+    let s = c .before .before .before .before in
     let a = s .args in
-    writing-start (a .rule .end) (frames (a .rule) (a .harvest .now)) (length (a .harvest .now)) (a .start)
+    writing-start (a .rule .end) (frames (a .rule) (a .harvest .now) (a .least .now) (a .most .now)) (length (a .harvest .now)) (a .start)
     (a .budgets .now) (s .pre .1) (s .pre .0 .start-fits) (s .pre .0 .able)
 
 has-requires : tie.Need-has-requires Inv-loop μ-loop
@@ -33,7 +33,7 @@ has-requires c κs =
     let writing = l .loop .inv in (
       read .plain,
       writing .charge-fits,
-      allows (l .before .before .before .args .rule .end) read
+      allows (l .before .before .before .before .before .args .rule .end) read
           (writing .able) .drains,
     )
 
@@ -41,10 +41,10 @@ search-requires : tie.Need-search-requires Inv-loop μ-loop
 search-requires c κs =
     let frame = c .before in
     let l = frame .before .before in
-    let s = l .before .before .before in
+    let s = l .before .before .before .before .before in
     let read = frame .frame-at .ensures in
     let a = allows (s .args .rule .end) read (l .loop .inv .able) in (
-      s .pre .0 .small,
+      s .pre .0 .readable,
       omega (arith, c .has .ensures, read .plain .ceiling-fits),
       omega (arith, frame .before .loop-test .taken),
       a .bounds,
@@ -55,8 +55,8 @@ search-requires c κs =
 found : (c : tie.After-search Inv-loop μ-loop) →
     let has = c .before in
     let l = has .before .before .before in
-    let a = l .before .before .before .args in
-    Stepped (a .rule .end) (frames (a .rule) (a .harvest .now)) (l .loop .i) (l .loop .y) (c .search .result)
+    let a = l .before .before .before .before .before .args in
+    Stepped (a .rule .end) (frames (a .rule) (a .harvest .now) (a .least .now) (a .most .now)) (l .loop .i) (l .loop .y) (c .search .result)
     (has .has .result - c .search .result)
 found c =
     let frame = c .before .before in
@@ -73,9 +73,9 @@ loop-again c =
 returns : tie.Need-returns Inv-loop μ-loop
 returns c =
     let l = c .before in
-    let a = l .before .before .before .args in
+    let a = l .before .before .before .before .before .args in
     let left = c .loop-test .left in
-    writing-done (l .loop .inv) (frames-past (a .rule) (a .harvest .now) (l .loop .i) left) left
+    writing-done (l .loop .inv) (frames-past (a .rule) (a .harvest .now) (a .least .now) (a .most .now) (l .loop .i) left) left
 
 pub search-all-spec : {M : Type 1} → statement M
 search-all-spec =

@@ -2,6 +2,7 @@
 -- every sum fits, and the frame rule stays at or above zero.
 use native.Mathlib.Omega.{arith}
 use borrow.Author.Needs.{needs}
+use Rattle.model.proofs.Charged.{charge-small, Ended, ended-at}
 use Rattle.shift.proofs.Record as law
 use Rattle.shift.proofs.Shift.recorded_by.Statement.{statement}
 use Rattle.shift.proofs.Shift.recorded_by.Tie as tie
@@ -15,11 +16,11 @@ known c = let s = c .before .before .before in law.passed (s .args .self) (s .ar
 frame-is :
     (c : tie.After-frame-end) →
     let s = c .before .before .before .args in
-    law.Ended (s .self .terms .capacity) (s .self .now .charge) (s .harvest) (s .used) (c .frame-end .result)
+    Ended (s .self .terms .capacity) (s .self .now .charge) (s .harvest) (s .used) (c .frame-end .result)
 frame-is c =
     let s = c .before .before .before .args in
     let p = known c in
-    law.ended (s .self .terms .capacity) (s .self .now .charge) (s .harvest) (s .used) (c .frame-end .result)
+    ended-at (s .self .terms .capacity) (s .self .now .charge) (s .harvest) (s .used) (c .frame-end .result)
     (omega arith) (omega arith) (p .enough) (c .frame-end .ensures)
 
 add-t10 : tie.Need-add-t10
@@ -49,7 +50,7 @@ recorded-by-spec =
     tie.close
     (tie.spec
     (λ c. search needs)
-    (λ c κs. law.charge-small (c .before .before .args .self .now .charge) (omega arith))
+    (λ c κs. charge-small (c .before .before .args .self .now .charge) (omega arith))
     add-t10
     add-t12
     add-t13

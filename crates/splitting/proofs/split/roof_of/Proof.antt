@@ -6,10 +6,10 @@ use Rattle.splitting.proofs.split.roof_of.Statement.{statement}
 use Rattle.splitting.proofs.split.roof_of.Tie as tie
 
 abbrev Inv-loop : tie.InvT-loop
-Inv-loop rule harvest start have₀ most₀ k₀ have most k = k ≤ length harvest
+Inv-loop rule harvest least most start have₀ top₀ k₀ have top k = k ≤ length harvest
 
 abbrev μ-loop : tie.MeasureT-loop
-μ-loop rule harvest start have₀ most₀ k₀ have most k = length harvest - k
+μ-loop rule harvest least most start have₀ top₀ k₀ have top k = length harvest - k
 
 pub roof-of-spec : {M : Type 1} → statement M
 roof-of-spec =

@@ -2,7 +2,6 @@
 use mathlib.Core.Path.{_≡_}
 use Prim.Native.Nat.{_-_, _<_, _^_}
 use lib.ListN.{length}
-use Rattle.certifier.specs.Says.{Small}
 use borrow.Author.Needs.{needs}
 use Rattle.string.proofs.funnel.draw_by_funnel.Statement.{statement}
 use Rattle.string.proofs.funnel.draw_by_funnel.Tie as tie
@@ -11,7 +10,7 @@ abbrev Inv-loop : tie.InvT-loop
 Inv-loop rule harvest levels₀ upper₀ lower₀ count capacity funnel₀ inflow₀ k₀ point₀ levels upper lower funnel inflow
     k point =
     (length levels ≡ length levels₀) × (length upper ≡ length upper₀) × (length lower ≡ length
-    lower₀) × (count ≡ length harvest) × (count < 2 ^ 64) × Small rule
+    lower₀) × (count ≡ length harvest) × (count < 2 ^ 64)
 
 abbrev μ-loop : tie.MeasureT-loop
 μ-loop rule harvest levels₀ upper₀ lower₀ count capacity funnel₀ inflow₀ k₀ point₀ levels upper lower funnel inflow k

@@ -7,10 +7,10 @@ use Rattle.string.proofs.string.inflows.Statement.{statement}
 use Rattle.string.proofs.string.inflows.Tie as tie
 
 abbrev Inv-loop : tie.InvT-loop
-Inv-loop rule harvest levels₀ k₀ levels k = (length levels ≡ length levels₀) × (k ≤ length harvest)
+Inv-loop harvest levels₀ k₀ levels k = (length levels ≡ length levels₀) × (k ≤ length harvest)
 
 abbrev μ-loop : tie.MeasureT-loop
-μ-loop rule harvest levels₀ k₀ levels k = length harvest - k
+μ-loop harvest levels₀ k₀ levels k = length harvest - k
 
 pub inflows-spec : {M : Type 1} → statement M
 inflows-spec =

@@ -2,10 +2,8 @@
 use mathlib.Core.Path.{ap}
 use Prim.Native.Nat.{_*_}
 use native.Mathlib.Omega.{arith}
-use lib.Dec.{ltb}
 use borrow.Author.Tests.{lt-ltb, le-ltb}
 use borrow.Author.Needs.{needs}
-use Rattle.model.proofs.First.{first-cons, first-last, refuseIf-none}
 use Rattle.wordfile.specs.Form.{placeIn}
 use Rattle.wordfile.proofs.reader.form_refusal.Statement.{statement}
 use Rattle.wordfile.proofs.reader.form_refusal.Tie as tie
@@ -18,13 +16,10 @@ returns c =
 
 returns-2 : tie.Need-returns-2
 returns-2 c =
-    let b = c .before .before .before in
+    let b = c .before in
     let g = b .before .before .form .given in
     let a = b .before .before .before .before .args in
-    rw (g .1, le-ltb (4 * g .0 .0) (a .bytes) (omega (arith, b .if1 .left)))
-    (first-cons (c .before .before .refuse-if .ensures)
-    (first-last (c .before .refuse-if2 .ensures) (refuseIf-none (ltb (a .room) (g .0 .1 .0)) 7))
-    (c .first-of .ensures))
+    rw (g .1, le-ltb (4 * g .0 .0) (a .bytes) (omega (arith, b .if1 .left))) (c .room-refusal .ensures)
 
 pub form-refusal-spec : {M : Type 1} → statement M
 form-refusal-spec =
@@ -33,8 +28,6 @@ form-refusal-spec =
     (λ c. search needs)
     (λ c. omega (arith, ap placeIn (c .before .form .given .1), c .before .before .before .pre))
     returns
-    (λ c κs. search needs)
-    (λ c κs. search needs)
     (λ c κs. search needs)
     (λ c. search needs)
     returns-2

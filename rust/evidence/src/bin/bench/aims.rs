@@ -24,12 +24,18 @@ const AIMS: [Aim; 7] = [
     Aim {
         what: "plan at most 1.3 of the source's Algorithm 2 at half a week and more",
         limit: 1.3,
-        figure: |line, call, measure| (HALF_WEEK <= line.row.frames && call == Call::Plan).then_some(measure.source),
+        figure: |line, call, measure| {
+            let counts = HALF_WEEK <= line.row.frames && call == Call::Plan;
+            measure.source.filter(|_| counts)
+        },
     },
     Aim {
         what: "needed capacity at most 1.3 of the source's Algorithm 1 at half a week and more",
         limit: 1.3,
-        figure: |line, call, measure| (HALF_WEEK <= line.row.frames && call == Call::Needed).then_some(measure.source),
+        figure: |line, call, measure| {
+            let counts = HALF_WEEK <= line.row.frames && call == Call::Needed;
+            measure.source.filter(|_| counts)
+        },
     },
     Aim {
         what: "daily sun no slower than the build beside",

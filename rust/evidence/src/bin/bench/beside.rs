@@ -1,7 +1,7 @@
 //! Another build of the library, loaded beside the linked one. It is made from its archive:
 //! `cc -shared -o FILE.so -Wl,--whole-archive libenergy.a -Wl,--no-whole-archive`.
 
-use energy::Figures;
+use energy::{Figures, Frames};
 use std::ffi::{CStr, CString};
 use std::os::raw::{c_char, c_int, c_void};
 use std::path::{Path, PathBuf};
@@ -19,8 +19,9 @@ struct NeededAnswer {
     capacity: u64,
 }
 
-type Plan = unsafe extern "C" fn(Figures, *const u32, usize, *mut u32, usize) -> PlanAnswer;
-type Needed = unsafe extern "C" fn(Figures, *const u32, usize) -> NeededAnswer;
+type List = *const u32;
+type Plan = unsafe extern "C" fn(Figures, List, usize, List, usize, List, usize, *mut u32, usize) -> PlanAnswer;
+type Needed = unsafe extern "C" fn(Figures, List, usize, List, usize, List, usize) -> NeededAnswer;
 
 #[link(name = "dl")]
 extern "C" {
@@ -94,17 +95,40 @@ impl Beside {
     }
 
     /// Its `energy_plan`; whether it was accepted.
-    pub fn plan(&self, figures: Figures, harvest: &[u32], budgets: &mut [u32]) -> bool {
-        let (taken, given) = (harvest.as_ptr(), budgets.as_mut_ptr());
-        // SAFETY: both lists are valid for their lengths, and a mutable list overlaps no other.
-        let answer = unsafe { (self.plan)(figures, taken, harvest.len(), given, budgets.len()) };
+    pub fn plan(&self, figures: Figures, frames: Frames, budgets: &mut [u32]) -> bool {
+        let Frames { harvest, least, most } = frames;
+        // SAFETY: all lists are valid for their lengths, and a mutable list overlaps no other.
+        let answer = unsafe {
+            (self.plan)(
+                figures,
+                harvest.as_ptr(),
+                harvest.len(),
+                least.as_ptr(),
+                least.len(),
+                most.as_ptr(),
+                most.len(),
+                budgets.as_mut_ptr(),
+                budgets.len(),
+            )
+        };
         answer.number == 0 && answer.p == 0
     }
 
     /// Its `energy_needed`, if it was accepted.
-    pub fn needed(&self, figures: Figures, harvest: &[u32]) -> Option<u64> {
-        // SAFETY: the list is valid for its length.
-        let answer = unsafe { (self.needed)(figures, harvest.as_ptr(), harvest.len()) };
+    pub fn needed(&self, figures: Figures, frames: Frames) -> Option<u64> {
+        let Frames { harvest, least, most } = frames;
+        // SAFETY: all lists are valid for their lengths.
+        let answer = unsafe {
+            (self.needed)(
+                figures,
+                harvest.as_ptr(),
+                harvest.len(),
+                least.as_ptr(),
+                least.len(),
+                most.as_ptr(),
+                most.len(),
+            )
+        };
         (answer.number == 0 && answer.p == 0).then_some(answer.capacity)
     }
 }

@@ -3,7 +3,7 @@
 use crate::beside::Beside;
 use crate::rows::Request;
 use crate::time::black_box;
-use energy::{Energy, Figures, Linked};
+use energy::{Energy, Figures, Frames, Linked};
 use evidence::algorithms::source;
 use evidence::fast::Fast;
 use evidence::reference::limits::MAX_FRAMES;
@@ -46,19 +46,23 @@ impl Call {
 pub type Run = Box<dyn FnMut(&Request)>;
 
 /// Plans into a list of its own.
-fn plans(plan: impl Fn(Figures, &[u32], &mut [u32]) -> bool + 'static) -> Run {
+fn plans(plan: impl Fn(Figures, Frames, &mut [u32]) -> bool + 'static) -> Run {
     let mut budgets = vec![0; MAX_FRAMES];
     Box::new(move |request| {
-        let budgets = &mut budgets[..request.harvest.len()];
-        assert!(plan(black_box(request.figures), black_box(&request.harvest), budgets));
+        let budgets = &mut budgets[..request.lists.count()];
+        assert!(plan(
+            black_box(request.figures),
+            black_box(request.lists.frames()),
+            budgets
+        ));
         black_box(&budgets);
     })
 }
 
 /// Needed capacities.
-fn needs(needed: impl Fn(Figures, &[u32]) -> Option<u64> + 'static) -> Run {
+fn needs(needed: impl Fn(Figures, Frames) -> Option<u64> + 'static) -> Run {
     Box::new(move |request| {
-        let answer = needed(black_box(request.figures), black_box(&request.harvest));
+        let answer = needed(black_box(request.figures), black_box(request.lists.frames()));
         assert!(black_box(answer).is_some());
     })
 }
@@ -66,8 +70,8 @@ fn needs(needed: impl Fn(Figures, &[u32]) -> Option<u64> + 'static) -> Run {
 /// The call by the linked library or its twin.
 fn by(energy: impl Energy + 'static, call: Call) -> Run {
     match call {
-        Call::Plan => plans(move |figures, harvest, budgets| energy.plan(figures, harvest, budgets).is_ok()),
-        Call::Needed => needs(move |figures, harvest| energy.needed(figures, harvest).ok()),
+        Call::Plan => plans(move |figures, frames, budgets| energy.plan(figures, frames, budgets).is_ok()),
+        Call::Needed => needs(move |figures, frames| energy.needed(figures, frames).ok()),
     }
 }
 
@@ -85,12 +89,12 @@ pub fn twin(call: Call) -> Run {
 pub fn other(beside: &Beside, call: Call) -> Run {
     let beside = beside.clone();
     match call {
-        Call::Plan => plans(move |figures, harvest, budgets| beside.plan(figures, harvest, budgets)),
-        Call::Needed => needs(move |figures, harvest| beside.needed(figures, harvest)),
+        Call::Plan => plans(move |figures, frames, budgets| beside.plan(figures, frames, budgets)),
+        Call::Needed => needs(move |figures, frames| beside.needed(figures, frames)),
     }
 }
 
-/// The source's Algorithm 2, and its needed capacity by Algorithm 1.
+/// The source's Algorithm 2, and its needed capacity by Algorithm 1; they know of no bounds.
 pub fn source(call: Call) -> Run {
     let mut budgets = vec![0.0; MAX_FRAMES];
     Box::new(move |request| {

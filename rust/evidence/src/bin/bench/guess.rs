@@ -1,20 +1,13 @@
 //! Which guess was certified, by the counters of the library's twin.
 
 use crate::rows::{Request, Row};
-use evidence::algorithms::certificate::frame::Plain;
-use evidence::algorithms::certificate::{plan_frames, Counters, Scratch};
+use evidence::algorithms::certificate::Counters;
+use evidence::fast::plan_into;
 
 /// Counts the guess of a request's plan.
 fn count(request: &Request, counters: &mut Counters) {
-    let (figures, harvest) = (request.figures, &request.harvest);
-    let frames = Plain::new(
-        figures.capacity.into(),
-        figures.start.into(),
-        figures.end.into(),
-        harvest,
-    );
-    let mut budgets = vec![0; harvest.len()];
-    plan_frames(&frames, &mut Scratch::new(harvest.len()), &mut budgets, counters);
+    let mut budgets = vec![0; request.lists.count()];
+    plan_into(request.figures.into(), request.lists.frames(), &mut budgets, counters);
 }
 
 /// The guesses that were certified for the plans of a row, and for how many of them.

@@ -106,6 +106,12 @@ impl Counts {
         (row.frames == COUNTED[1]).then(|| growth(&self.library[call as usize][at - 1..=at]))
     }
 
+    /// The count of a row's call, if it was counted.
+    pub fn count(&self, call: Call, row: &Row) -> Option<f64> {
+        let at = self.rows.iter().position(|other| other == row)?;
+        Some(self.library[call as usize][at] as f64)
+    }
+
     /// Every count.
     pub fn table(&self, beside: Option<&Beside>) -> String {
         let mut text = String::new();

@@ -2,6 +2,7 @@
 
 mod aims;
 mod beside;
+mod bounds;
 mod contenders;
 mod guess;
 mod instructions;
@@ -81,7 +82,8 @@ fn run(asked: &Asked) -> Result<(), String> {
     let beside = asked.beside.as_ref();
     let counts = instructions::count(beside);
     if asked.instructions {
-        print!("{}", counts?.table(beside));
+        let counts = counts?;
+        print!("{}{}", counts.table(beside), bounds::counted(&counts));
         return Ok(());
     }
     let counts = match counts {
@@ -94,7 +96,7 @@ fn run(asked: &Asked) -> Result<(), String> {
     let measured = Measured::take(beside, counts);
     println!("{}\n", heading());
     print!("{}", measured.summary());
-    print!("{}", aims::report(&measured));
+    print!("{}{}", aims::report(&measured), bounds::report(&measured));
     if let Some(path) = &asked.table {
         let text = format!("{TITLE}\n\n{}\n\n{}", heading(), measured.whole());
         std::fs::write(path, text).map_err(|error| format!("{}: {error}", path.display()))?;

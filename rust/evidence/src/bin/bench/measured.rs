@@ -11,7 +11,8 @@ use evidence::families::FRAMES;
 pub struct Measure {
     pub micros: f64,
     pub twin: f64,
-    pub source: f64,
+    /// The source's algorithms know of no bounds.
+    pub source: Option<f64>,
     pub beside: Option<f64>,
     /// In counted instructions.
     pub growth: Option<f64>,
@@ -50,12 +51,12 @@ fn times(call: Call, rows: &[Row], beside: Option<&Beside>) -> Vec<Vec<f64>> {
     best
 }
 
-/// The library's time, and its ratios to the others.
-fn measure(times: &[f64], growth: Option<f64>) -> Measure {
+/// The library's time in a row, and its ratios to the others.
+fn measure(row: &Row, times: &[f64], growth: Option<f64>) -> Measure {
     Measure {
         micros: times[0],
         twin: times[0] / times[1],
-        source: times[0] / times[2],
+        source: (!row.bounded).then(|| times[0] / times[2]),
         beside: times.get(3).map(|time| times[0] / time),
         growth,
     }
@@ -68,7 +69,7 @@ impl Measured {
         let times = CALLS.map(|call| times(call, &rows, beside));
         let line = |(i, &row): (usize, &Row)| {
             let growth = |call| counts.as_ref().and_then(|counts| counts.growth(call, &row));
-            let calls = CALLS.map(|call| measure(&times[call as usize][i], growth(call)));
+            let calls = CALLS.map(|call| measure(&row, &times[call as usize][i], growth(call)));
             Line { row, calls }
         };
         Measured {
@@ -76,5 +77,11 @@ impl Measured {
             beside: beside.cloned(),
             counts,
         }
+    }
+
+    /// The time of a row's call, if it was measured.
+    pub fn micros(&self, call: Call, row: &Row) -> Option<f64> {
+        let line = self.lines.iter().find(|line| line.row == *row)?;
+        Some(line.calls[call as usize].micros)
     }
 }

@@ -1,19 +1,20 @@
 //! What is measured: a row for every family, size and number of frames, and the requests that stand for it.
 
 use energy::Figures;
-use evidence::families::{full, request, Family, Size, FAMILIES, FULL, SIZES};
+use evidence::families::{bounded, full, request, Family, Size, FAMILIES, FULL, SIZES};
+use evidence::lists::Lists;
 use evidence::random::{seed, Random};
 
 /// The largest harvest of the measured requests.
 pub const MOST: u32 = 1_000;
 
-/// How many requests of a random family stand for it, so that a processor doesn't learn the branches of one.
+/// How many requests of a random family, and of any with random bounds, stand for it, so that a processor doesn't learn the branches of one.
 const REQUESTS: u64 = 8;
 
 /// A request, its harvests also as the source's algorithms take them.
 pub struct Request {
     pub figures: Figures,
-    pub harvest: Vec<u32>,
+    pub lists: Lists,
     pub fractions: Vec<f64>,
 }
 
@@ -23,15 +24,23 @@ pub struct Row {
     pub family: Family,
     /// Start and end at the capacity.
     pub full: bool,
+    /// Random leasts and mosts.
+    pub bounded: bool,
     pub size: Size,
     pub frames: usize,
 }
 
 impl Row {
-    /// The row's harvests and charges.
-    fn kind(&self) -> String {
+    /// The row's harvests, charges and bounds.
+    pub fn kind(&self) -> String {
         let full = if self.full { ", full" } else { "" };
-        format!("{}{full}", self.family.name())
+        let bounded = if self.bounded { ", bounded" } else { "" };
+        format!("{}{full}{bounded}", self.family.name())
+    }
+
+    /// The same row without bounds.
+    pub fn unbounded(self) -> Row {
+        Row { bounded: false, ..self }
     }
 
     /// The first cells of the row: harvests and capacity.
@@ -46,7 +55,8 @@ impl Row {
 
     /// The row's requests: the same in every run with the same seed.
     pub fn requests(&self) -> Vec<Request> {
-        let count = if self.family.is_random() { REQUESTS } else { 1 };
+        let random = self.family.is_random() || self.bounded;
+        let count = if random { REQUESTS } else { 1 };
         (0..count).map(|i| self.request(i)).collect()
     }
 
@@ -54,15 +64,20 @@ impl Row {
     fn request(&self, i: u64) -> Request {
         let mut random = Random::of_case(seed(), self.frames as u64 + (i << 32));
         let (figures, harvest) = request(self.family, self.size, self.frames, MOST, &mut random);
+        let figures = if self.full { full(figures) } else { figures };
         Request {
-            figures: if self.full { full(figures) } else { figures },
+            figures,
             fractions: harvest.iter().map(|&h| f64::from(h)).collect(),
-            harvest,
+            lists: if self.bounded {
+                bounded(figures, harvest, &mut random)
+            } else {
+                Lists::unbounded(harvest)
+            },
         }
     }
 }
 
-/// The rows of some numbers of frames, in the order of the tables.
+/// The rows of some numbers of frames, in the order of the tables: each kind without bounds and then with them.
 pub fn rows(frames: &[usize]) -> Vec<Row> {
     let usual = FAMILIES.iter().map(|&family| (family, false));
     let kinds = usual.chain(FULL.iter().map(|&family| (family, true)));
@@ -72,12 +87,15 @@ pub fn rows(frames: &[usize]) -> Vec<Row> {
             if family == Family::ZeroCapacity && size != Size::Small {
                 continue;
             }
-            rows.extend(frames.iter().map(|&frames| Row {
-                family,
-                full,
-                size,
-                frames,
-            }));
+            for bounded in [false, true] {
+                rows.extend(frames.iter().map(|&frames| Row {
+                    family,
+                    full,
+                    bounded,
+                    size,
+                    frames,
+                }));
+            }
         }
     }
     rows

@@ -31,8 +31,8 @@ impl Measured {
 
     /// The cells of a call.
     fn cells(&self, measure: &Measure) -> String {
-        let figures = [measure.micros, measure.twin, measure.source];
-        let mut text: String = figures.iter().map(|&figure| cell(Some(figure))).collect();
+        let figures = [Some(measure.micros), Some(measure.twin), measure.source];
+        let mut text: String = figures.iter().map(|&figure| cell(figure)).collect();
         if self.beside.is_some() {
             text.push_str(&cell(measure.beside));
         }

@@ -6,9 +6,9 @@ use native.Mathlib.Omega.{arith}
 use lib.ListN.{length, drop}
 use borrow.Author.Needs.{needs}
 use Rattle.model.specs.Request.{request, total}
-use Rattle.request.proofs.sums.reach_refusal.Statement.{statement}
+use Rattle.request.proofs.reach.reach_refusal.Statement.{statement}
 use Rattle.request.proofs.Harvest as law
-use Rattle.request.proofs.sums.reach_refusal.Tie as tie
+use Rattle.request.proofs.reach.reach_refusal.Tie as tie
 
 abbrev Inv-loop : tie.InvT-loop
 Inv-loop harvest goal reach₀ i₀ reach i =
