@@ -37,7 +37,7 @@
  * A list is a pointer and then its length in entries. It must be aligned and valid for that length, and not null even
  * where the length is 0. A list that a call writes must not overlap another list of the same call. No call keeps a
  * pointer, allocates, or touches anything but its lists, so calls on different lists may run at the same time.
- * Working lists stand on the stack: a call takes at most 32 KiB of it.
+ * Working lists stand on the stack: a call takes at most 52 KiB of it.
  */
 #ifndef ENERGY_H
 #define ENERGY_H
@@ -68,7 +68,7 @@ extern "C" {
 
 /* The largest least of a frame, and its largest most beside the one that means no upper end. */
 #define ENERGY_MAX_BOUND 536870911
-#define ENERGY_NO_UPPER_END 4294967295
+#define ENERGY_NO_UPPER_END 4294967295u
 
 /* Room for any listing: a line of at most 49 bytes, one of at most 33 for each frame, and one of at most 42. */
 #define ENERGY_LISTING_BYTES (49 + 33 * ENERGY_MAX_FRAMES + 42)

@@ -20,7 +20,9 @@ worked-cases =
     ▸ (refl, refl, refl) ▸ (refl, refl, refl) ▸ refl ▸ refl ▸ refl ▸ refl ▸ (refl, refl, refl) ▸ refl
     ▸ (refl, refl) ▸ (refl, refl) ▸ (refl, refl) ▸ (refl, refl) ▸ (refl, refl) ▸ (refl, refl) ▸ (refl, refl)
     ▸ (refl, refl) ▸ (refl, refl) ▸ (refl, refl) ▸ (refl, refl) ▸ (refl, refl) ▸ (refl, refl) ▸ (refl, refl)
-    ▸ (refl, refl) ▸ (refl, refl) ▸ (refl, refl) ▸ refl ▸ (refl, refl) ▸ (refl, refl) ▸ (refl, refl) ▸ refl ▸ refl
-    ▸ refl ▸ refl ▸ (refl, refl) ▸ refl ▸ refl ▸ refl ▸ refl ▸ refl ▸ refl ▸ refl ▸ refl ▸ (refl, refl, refl)
-    ▸ (refl, refl, refl) ▸ (refl, refl, refl) ▸ refl ▸ refl ▸ (refl, refl, refl) ▸ (refl, refl) ▸ (refl, refl)
-    ▸ (refl, refl) ▸ (refl, refl) ▸ (refl, refl) ▸ (refl, refl) ▸ tt
+    ▸ (refl, refl) ▸ (refl, refl) ▸ (refl, refl) ▸ (refl, refl) ▸ refl ▸ (refl, refl) ▸ (refl, refl)
+    ▸ (refl, refl) ▸ refl ▸ refl ▸ refl ▸ refl ▸ (refl, refl) ▸ refl ▸ refl ▸ refl ▸ refl ▸ refl ▸ refl ▸ refl
+    ▸ refl ▸ refl ▸ refl ▸ refl ▸ refl ▸ refl ▸ refl ▸ refl ▸ (refl, refl, refl) ▸ (refl, refl, refl)
+    ▸ (refl, refl, refl) ▸ (refl, refl, refl) ▸ (refl, refl, refl) ▸ refl ▸ refl ▸ refl ▸ (refl, refl, refl)
+    ▸ (refl, refl) ▸ (refl, refl) ▸ (refl, refl) ▸ (refl, refl) ▸ (refl, refl) ▸ (refl, refl) ▸ (refl, refl)
+    ▸ (refl, refl) ▸ (refl, refl) ▸ (refl, refl) ▸ tt

@@ -11,7 +11,7 @@ use lib.ListN.{length, replicate, drop}
 use Rattle.model.specs.declared.Refusal.{Refusal}
 use Rattle.model.specs.Limits.{noUpperEnd}
 use Rattle.model.specs.Request.{Request, boundedRequest, figures, frameCount}
-use Rattle.model.specs.Refusals.{refusal, none, planRefusal, neededRefusal}
+use Rattle.model.specs.Refusals.{refusal, none, planRefusal, neededRefusal, startRefusal}
 use Rattle.model.specs.Charge.{charges, losses}
 use Rattle.model.specs.Trace.{trace, traceLosses, Verdict, below-zero, is-feasible, verdict}
 use Rattle.model.specs.Curves.{houseCurve, grade}
@@ -20,7 +20,7 @@ use Rattle.shift.specs.declared.Shift.{Shift}
 use Rattle.shift.specs.Shift.{started, recordRefusal, recordedBy}
 use Rattle.rest.specs.Rest.{Lists, lists, Ending, notShort, endingOf, restRequest, restRefusal, restBudgets}
 use Rattle.words.specs.Words.{bytesOf}
-use Rattle.wordfile.specs.File.{fileWords, fileBytes, requestIn, readRefusal}
+use Rattle.wordfile.specs.File.{fileWords, fileBytes, requestIn, readRefusal, writeRefusal}
 use Rattle.printed.specs.Text as text
 use Rattle.text.specs.Ascii.{ascii}
 
@@ -43,6 +43,8 @@ pub data Case : Type 0 where
   unrecorded : Shift → ℕ → ℕ → Refusal → Case
   -- a request and the refusal of its needed capacity
   unneeded : Request → Refusal → Case
+  -- a request and the refusal of a shift's start from it
+  unstarted : Request → Refusal → Case
   -- a shift, the lists that planning the rest is lent, how it ends, and the budgets that it writes
   rests : Shift → Lists → Ending → List ℕ → Case
   -- a shift, the lists that planning the rest is lent, and its refusal
@@ -51,6 +53,8 @@ pub data Case : Type 0 where
   words : Request → List ℕ → Case
   -- a file, how many bytes it has, the room of the lists that it is read into, and the refusal
   reads : List ℕ → ℕ → ℕ → Refusal → Case
+  -- a request, the room of the list that it is written into, and the refusal
+  unwritten : Request → ℕ → Refusal → Case
   -- a request and what the plan program prints of its file
   prints : Request → String → Case
 
@@ -67,6 +71,8 @@ Holds (records s h u x l) =
     × (recordedBy s h u .now .totals .lost ≡ s .now .totals .lost + l)
 Holds (unrecorded s h u f) = recordRefusal s h u ≡ f
 Holds (unneeded r f) = neededRefusal r (frameCount r) (frameCount r) ≡ f
+Holds (unstarted r f) = startRefusal r (frameCount r) (frameCount r) ≡ f
+Holds (unwritten r room f) = writeRefusal r (frameCount r) (frameCount r) room ≡ f
 Holds (rests s p e bs) =
     let q = restRequest s p in
     (restRefusal s p (s .terms .frames) ≡ none) × (endingOf q ≡ e) × (restBudgets q ≡ bs)
@@ -167,6 +173,7 @@ cases =
     ∷ unrecorded (started (evenly 673)) 1 1 (refusal 22 0)
     ∷ reads (fileBytes (evenly 672)) 2704 672 none
     ∷ reads (fileBytes (evenly 673)) 2708 673 (refusal 2 0)
+    ∷ reads (fileBytes (evenly 673)) 2708 672 (refusal 2 0)
     ∷ reads (fileBytes (within 672)) 8080 672 none
     ∷ reads (fileBytes (within 672) ++ (0 ∷ [])) 8081 672 (refusal 2 0)
     ∷ reads (fileBytes (within 672)) 8080 671 (refusal 7 0)
@@ -206,12 +213,24 @@ cases =
     ∷ refused (bound 9 0 0 (1 ∷ 1 ∷ []) (0 ∷ 0 ∷ []) (536870911 ∷ 4294967294 ∷ [])) (refusal 10 2)
     ∷ refused (bound 9 0 0 (1 ∷ 1 ∷ []) (0 ∷ 0 ∷ []) (536870911 ∷ 4294967295 ∷ [])) none
     ∷ unneeded (bound 9 0 0 (1 ∷ 1 ∷ []) (3 ∷ 2 ∷ []) (2 ∷ 1 ∷ [])) (refusal 10 1)
+    ∷ refused (bound 9 0 0 (1 ∷ 400001 ∷ []) (3 ∷ 0 ∷ []) (2 ∷ 0 ∷ [])) (refusal 6 2)
+    -- the start of a shift and the writer: 10 with its frame, 11 of the start alone, 6 before 10, 7 before both
+    ∷ unstarted (bound 9 0 0 (1 ∷ 1 ∷ []) (0 ∷ 2 ∷ []) (0 ∷ 1 ∷ [])) (refusal 10 2)
+    ∷ unstarted (listingWithin (9 ∷ drop 1 noLeasts) noMosts) (refusal 11 0)
+    ∷ unwritten (listingWithin (9 ∷ drop 1 noLeasts) noMosts) 99 none
+    ∷ unwritten (bound 9 0 0 (1 ∷ 1 ∷ []) (0 ∷ 2 ∷ []) (0 ∷ 1 ∷ [])) 99 (refusal 10 2)
+    ∷ unwritten (bound 9 0 0 (1 ∷ 400001 ∷ []) (3 ∷ 0 ∷ []) (2 ∷ 0 ∷ [])) 99 (refusal 6 2)
+    ∷ unwritten (bound 9 0 0 (1 ∷ 400001 ∷ []) (3 ∷ 0 ∷ []) (2 ∷ 0 ∷ [])) 35 (refusal 7 0)
     -- a rest by the bounds lent: served, short by what zeros miss, short by nothing, and refused
     ∷ rests afterOne (atLeast sun (0 ∷ 0 ∷ 0 ∷ 3 ∷ 0 ∷ 0 ∷ [])) notShort (1 ∷ 0 ∷ 3 ∷ 4 ∷ 4 ∷ [])
+    ∷ rests afterOne (lists sun noLeasts (0 ∷ 1 ∷ drop 2 noMosts)) notShort (1 ∷ 2 ∷ 1 ∷ 4 ∷ 4 ∷ [])
+    ∷ rests afterOne (lists sun noLeasts (replicate 6 1)) notShort (replicate 5 1)
     ∷ rests afterOne (atLeast (6 ∷ 0 ∷ 0 ∷ 0 ∷ 0 ∷ 1 ∷ []) noLeasts) (shortBy 1) (replicate 5 0)
     ∷ rests afterOne (atLeast sun (9 ∷ 9 ∷ 0 ∷ 0 ∷ 0 ∷ 0 ∷ [])) (shortBy 0) (replicate 5 0)
     ∷ unrested afterOne (lists sun noLeasts (0 ∷ 5 ∷ 536870912 ∷ 1 ∷ 1 ∷ 1 ∷ [])) (refusal 10 3)
     ∷ unrested afterOne (lists sun (9 ∷ 0 ∷ 0 ∷ 4 ∷ 0 ∷ 0 ∷ []) (0 ∷ 5 ∷ 5 ∷ 3 ∷ 5 ∷ 5 ∷ [])) (refusal 10 4)
+    ∷ unrested afterOne (lists (6 ∷ 4 ∷ 0 ∷ 0 ∷ 5 ∷ 400001 ∷ []) noLeasts (0 ∷ 5 ∷ 536870912 ∷ 1 ∷ 1 ∷ 1 ∷ []))
+    (refusal 6 6)
     -- a file with a least, a most, both and neither; what the writer leaves out may stand there; wrong orders
     ∷ words (bound 9 0 0 (1 ∷ 2 ∷ 3 ∷ 4 ∷ []) (1 ∷ 0 ∷ 1 ∷ 0 ∷ []) (noUpperEnd ∷ 2 ∷ 3 ∷ noUpperEnd ∷ []))
     (0x00000009 ∷ 0 ∷ 0 ∷ 0x40000001 ∷ 0x80000001 ∷ 0x40000002 ∷ 0xA0000002 ∷ 0x40000003 ∷ 0x80000001 ∷ 0xA0000003
@@ -221,5 +240,10 @@ cases =
     ∷ reads (bytesOf (9 ∷ 0 ∷ 0 ∷ 0x40000001 ∷ 0x80000001 ∷ 0x80000001 ∷ 0xC0000001 ∷ [])) 28 1 (refusal 8 5)
     ∷ reads (bytesOf (9 ∷ 0 ∷ 0 ∷ 0x40000001 ∷ 0xA0000002 ∷ 0xA0000002 ∷ 0xC0000001 ∷ [])) 28 1 (refusal 8 5)
     ∷ reads (bytesOf (9 ∷ 0 ∷ 0 ∷ 0x80000001 ∷ 0x40000001 ∷ 0xC0000001 ∷ [])) 24 1 (refusal 8 3)
+    -- the same with leasts of 0, which say nothing and yet have their place
+    ∷ reads (bytesOf (9 ∷ 0 ∷ 0 ∷ 0x40000001 ∷ 0xA0000002 ∷ 0x80000000 ∷ 0xC0000001 ∷ [])) 28 1 (refusal 8 5)
+    ∷ reads (bytesOf (9 ∷ 0 ∷ 0 ∷ 0x40000001 ∷ 0x80000002 ∷ 0x80000000 ∷ 0xC0000001 ∷ [])) 28 1 (refusal 8 5)
+    ∷ reads (bytesOf (9 ∷ 0 ∷ 0 ∷ 0x40000001 ∷ 0x80000000 ∷ 0x80000000 ∷ 0xC0000001 ∷ [])) 28 1 (refusal 8 5)
+    ∷ reads (bytesOf (9 ∷ 0 ∷ 0 ∷ 0x80000000 ∷ 0x40000001 ∷ 0xC0000001 ∷ [])) 24 1 (refusal 8 3)
     ∷ reads (bytesOf (9 ∷ 0 ∷ 0x80000001 ∷ 0x40000001 ∷ 0xC0000001 ∷ [])) 20 1 (refusal 8 2)
     ∷ []

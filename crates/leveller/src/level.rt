@@ -1,6 +1,6 @@
-// The first guess: one level for all frames, the mean of what there is to draw. It takes one sum over the inflows,
-// and many requests have no other level. Where the store runs dry or overflows at it in the first frames, as before a
-// sunrise, it is not worth a certificate.
+// The first guess: one level for all frames, at which they draw all that there is to draw: the mean, or, where frames
+// are bounded, the mean of what the others leave. Many requests have no other level. Where the store runs dry or
+// overflows at it in the first frames, as before a sunrise, it is not worth a certificate.
 use certifier::Rule;
 use certifier::draw;
 use certifier::frame_at;
@@ -16,6 +16,9 @@ ghost use Rattle.certifier.specs.Says.{Readable};
 
 // How many frames are the first ones.
 const FIRST: usize = 64;
+
+// How often the level of bounded frames is looked for.
+const ROUNDS: u64 = 6;
 
 // All that comes in, less what is drained.
 fn brought(rule: Rule, harvest: &[u32], least: &[u32], most: &[u32]) -> u64
@@ -63,7 +66,34 @@ fn lasts_at_first(
     true
 }
 
-// Writes the mean as the level of every frame, if the first of them can draw it. Says whether it did.
+// What there is to draw until the end.
+fn to_draw(rule: Rule, harvest: &[u32], least: &[u32], most: &[u32], start: u64) -> u64
+    requires { ⌜ Readable rule (now harvest) (now least) (now most) ⌝ }
+{
+    less(plus(start, brought(rule, harvest, least, most)), rule.end)
+}
+
+// Writes a level as that of every frame, if the first of them can draw it. Says whether it did.
+fn level_all(
+    rule: Rule,
+    harvest: &[u32],
+    least: &[u32],
+    most: &[u32],
+    start: u64,
+    level: u64,
+    levels: &mut [u32],
+) -> bool
+    requires { ⌜ Readable rule (now harvest) (now least) (now most) ⌝ }
+    ensures { λ _. ⌜ length (now (levels .exit)) ≡ length (now (levels .entry)) ⌝ }
+{
+    if lasts_at_first(rule, harvest, least, most, start, level) {
+        fill(levels, 0, levels.len(), level);
+        return true;
+    }
+    false
+}
+
+// The mean as the level of every frame.
 pub fn one_level(
     rule: Rule,
     harvest: &[u32],
@@ -75,11 +105,123 @@ pub fn one_level(
     requires { ⌜ Readable rule (now harvest) (now least) (now most) ⌝ }
     ensures { λ _. ⌜ length (now (levels .exit)) ≡ length (now (levels .entry)) ⌝ }
 {
-    let drawn = less(plus(start, brought(rule, harvest, least, most)), rule.end);
-    let mean = over(drawn, harvest.len() as u64);
-    if lasts_at_first(rule, harvest, least, most, start, mean) {
-        fill(levels, 0, levels.len(), mean);
-        return true;
+    let all = to_draw(rule, harvest, least, most, start);
+    let mean = over(all, harvest.len() as u64);
+    level_all(rule, harvest, least, most, start, mean, levels)
+}
+
+// Whether the first frames run dry at a level well below this one, or overflow at one well above it.
+fn is_hopeless(
+    rule: Rule,
+    harvest: &[u32],
+    least: &[u32],
+    most: &[u32],
+    start: u64,
+    level: u64,
+) -> bool
+    requires { ⌜ Readable rule (now harvest) (now least) (now most) ⌝ }
+{
+    let margin = level / 8;
+    let last = within(FIRST, harvest.len());
+    let mut more = start;
+    let mut fewer = start;
+    let mut i = 0;
+    while i < last {
+        let f = frame_at(rule, harvest, least, most, i);
+        let need = plus(f.drain, draw(f.least, f.most, minus(level, margin)));
+        more = plus(more, f.inflow);
+        fewer = plus(fewer, f.inflow);
+        if f.ceiling < fewer {
+            return true;
+        }
+        if more < need {
+            return true;
+        }
+        more = minus(more, need);
+        fewer = less(
+            fewer,
+            plus(f.drain, draw(f.least, f.most, plus(level, margin))),
+        );
+        i += 1;
     }
     false
+}
+
+// What frames draw at a level, and how many of them would draw more at one level more.
+pub struct Drawn {
+    pub sum: u64,
+    pub free: u64,
+}
+
+// What all frames draw at a level.
+fn drawn_at(rule: Rule, harvest: &[u32], least: &[u32], most: &[u32], level: u64) -> Drawn
+    requires { ⌜ Readable rule (now harvest) (now least) (now most) ⌝ }
+{
+    let mut sum = 0;
+    let mut next = 0;
+    let mut i = 0;
+    while i < harvest.len() {
+        let f = frame_at(rule, harvest, least, most, i);
+        sum = plus(sum, draw(f.least, f.most, level));
+        next = plus(next, draw(f.least, f.most, plus(level, 1)));
+        i += 1;
+    }
+    Drawn {
+        sum: sum,
+        free: minus(next, sum),
+    }
+}
+
+// The level at which all would be drawn, if the same frames were free there.
+fn nearer(level: u64, d: Drawn, all: u64) -> u64 {
+    if d.sum <= all {
+        return plus(level, over(minus(all, d.sum), d.free));
+    }
+    less(level, plus(over(minus(minus(d.sum, all), 1), d.free), 1))
+}
+
+// The level at which all is drawn, or one that is not so far from it where that is not found in some rounds.
+fn shared_level(
+    rule: Rule,
+    harvest: &[u32],
+    least: &[u32],
+    most: &[u32],
+    all: u64,
+    first: u64,
+) -> u64
+    requires { ⌜ Readable rule (now harvest) (now least) (now most) ⌝ }
+{
+    let mut level = first;
+    let mut rounds = ROUNDS;
+    while 0 < rounds {
+        let d = drawn_at(rule, harvest, least, most, level);
+        let next = nearer(level, d, all);
+        if next == level {
+            return level;
+        }
+        level = next;
+        rounds -= 1;
+    }
+    level
+}
+
+// The level at which bounded frames draw all as that of every frame.
+pub fn one_shared_level(
+    rule: Rule,
+    harvest: &[u32],
+    least: &[u32],
+    most: &[u32],
+    start: u64,
+    levels: &mut [u32],
+) -> bool
+    requires { ⌜ Readable rule (now harvest) (now least) (now most) ⌝ }
+    ensures { λ _. ⌜ length (now (levels .exit)) ≡ length (now (levels .entry)) ⌝ }
+{
+    let all = to_draw(rule, harvest, least, most, start);
+    let mean = over(all, harvest.len() as u64);
+    if is_hopeless(rule, harvest, least, most, start, mean) {
+        return false;
+    }
+    let level = shared_level(rule, harvest, least, most, all, mean);
+    level_all(rule, harvest, least, most, start, level, levels)
 }

@@ -1,10 +1,12 @@
 // The plan of a request: levels are guessed, certified and followed. One level for all frames is tried first, then
-// the string, where no frame is bounded, then the splitting; a guess that is not certified costs time and nothing
-// else.
+// the string, where no frame is bounded, or the curve, where some are, then the splitting; a guess that is not
+// certified costs time and nothing else.
 use super::bounded::is_bounded;
 use super::level::one_level;
+use super::level::one_shared_level;
 use certifier::Rule;
 use certifier::by_levels;
+use curve::curve_levels;
 use model::limits::MAX_FRAMES;
 use search::search_all;
 use splitting::split_levels;
@@ -20,6 +22,11 @@ ghost use Rattle.leveller.specs.Plan.{Ready, Few, day};
 
 // The most frames for which short lists are taken: enough for a day of quarter hours.
 pub const DAY: usize = 128;
+
+// How many knots the curve may have: four for each frame.
+const DAY_KNOTS: usize = 512;
+
+const MAX_KNOTS: usize = 2688;
 
 // The plan by one level for all frames.
 fn by_one_level(
@@ -39,6 +46,127 @@ fn by_one_level(
         return by_levels(rule, harvest, least, most, start, after, budgets);
     }
     false
+}
+
+// The same where some frame is bounded.
+fn by_one_shared_level(
+    rule: Rule,
+    harvest: &[u32],
+    least: &[u32],
+    most: &[u32],
+    start: u64,
+    after: &mut [u32],
+    budgets: &mut [u32],
+) -> bool
+    requires { ⌜ Lent rule (now harvest) (now least) (now most) start (now after) (now budgets) ⌝ }
+    ensures { λ r. ⌜ Tried rule (now (harvest .entry)) (now (least .entry)) (now (most .entry)) start
+        (now (after .entry)) (now (after .exit)) (now (budgets .entry)) (now (budgets .exit)) r ⌝ }
+{
+    if one_shared_level(rule, harvest, least, most, start, budgets) {
+        return by_levels(rule, harvest, least, most, start, after, budgets);
+    }
+    false
+}
+
+// The plan by the curve, which keeps the highest levels in `marks`.
+fn by_curve(
+    rule: Rule,
+    harvest: &[u32],
+    least: &[u32],
+    most: &[u32],
+    start: u64,
+    after: &mut [u32],
+    marks: &mut [u32],
+    knots: &mut [u64],
+    budgets: &mut [u32],
+) -> bool
+    requires { ⌜ Lent rule (now harvest) (now least) (now most) start (now after) (now budgets) ⌝ }
+    ensures { λ r. ⌜ Tried rule (now (harvest .entry)) (now (least .entry)) (now (most .entry)) start
+        (now (after .entry)) (now (after .exit)) (now (budgets .entry)) (now (budgets .exit)) r ⌝ }
+{
+    if curve_levels(rule, harvest, least, most, start, budgets, marks, knots) {
+        return by_levels(rule, harvest, least, most, start, after, budgets);
+    }
+    false
+}
+
+// The same with a list for the knots of a day.
+fn by_curve_of_day(
+    rule: Rule,
+    harvest: &[u32],
+    least: &[u32],
+    most: &[u32],
+    start: u64,
+    after: &mut [u32],
+    marks: &mut [u32],
+    budgets: &mut [u32],
+) -> bool
+    requires { ⌜ Lent rule (now harvest) (now least) (now most) start (now after) (now budgets) ⌝ }
+    ensures { λ r. ⌜ Tried rule (now (harvest .entry)) (now (least .entry)) (now (most .entry)) start
+        (now (after .entry)) (now (after .exit)) (now (budgets .entry)) (now (budgets .exit)) r ⌝ }
+{
+    let mut knots = [0u64; DAY_KNOTS];
+    by_curve(
+        rule,
+        harvest,
+        least,
+        most,
+        start,
+        after,
+        marks,
+        &mut knots,
+        budgets,
+    )
+}
+
+// The same with a list for the knots of all frames that a request may have.
+fn by_any_curve(
+    rule: Rule,
+    harvest: &[u32],
+    least: &[u32],
+    most: &[u32],
+    start: u64,
+    after: &mut [u32],
+    marks: &mut [u32],
+    budgets: &mut [u32],
+) -> bool
+    requires { ⌜ Lent rule (now harvest) (now least) (now most) start (now after) (now budgets) ⌝ }
+    ensures { λ r. ⌜ Tried rule (now (harvest .entry)) (now (least .entry)) (now (most .entry)) start
+        (now (after .entry)) (now (after .exit)) (now (budgets .entry)) (now (budgets .exit)) r ⌝ }
+{
+    let mut knots = [0u64; MAX_KNOTS];
+    by_curve(
+        rule,
+        harvest,
+        least,
+        most,
+        start,
+        after,
+        marks,
+        &mut knots,
+        budgets,
+    )
+}
+
+// The same with the list that suits the frames.
+fn by_curve_of_size(
+    rule: Rule,
+    harvest: &[u32],
+    least: &[u32],
+    most: &[u32],
+    start: u64,
+    after: &mut [u32],
+    marks: &mut [u32],
+    budgets: &mut [u32],
+) -> bool
+    requires { ⌜ Lent rule (now harvest) (now least) (now most) start (now after) (now budgets) ⌝ }
+    ensures { λ r. ⌜ Tried rule (now (harvest .entry)) (now (least .entry)) (now (most .entry)) start
+        (now (after .entry)) (now (after .exit)) (now (budgets .entry)) (now (budgets .exit)) r ⌝ }
+{
+    if harvest.len() <= DAY {
+        return by_curve_of_day(rule, harvest, least, most, start, after, marks, budgets);
+    }
+    by_any_curve(rule, harvest, least, most, start, after, marks, budgets)
 }
 
 // Writes the plan's budgets by the splitting, which keeps the highest levels in `after` and its tries in `marks`;
@@ -87,8 +215,8 @@ fn plan_by_string(
     plan_by_splitting(rule, harvest, least, most, start, after, marks, budgets);
 }
 
-// Writes the plan's budgets by the string where no frame is bounded, and otherwise by the splitting at once.
-fn plan_by_many_levels(
+// Writes the plan's budgets by the curve; where its levels are not certified, by the splitting.
+fn plan_by_curve(
     rule: Rule,
     harvest: &[u32],
     least: &[u32],
@@ -102,8 +230,49 @@ fn plan_by_many_levels(
     ensures { λ _. ⌜ PlannedAt rule (now (harvest .entry)) (now (least .entry)) (now (most .entry)) start
         (now (budgets .exit)) ⌝ }
 {
-    if is_bounded(least, most) {
-        plan_by_splitting(rule, harvest, least, most, start, after, marks, budgets);
+    if by_curve_of_size(rule, harvest, least, most, start, after, marks, budgets) {
+        return;
+    }
+    plan_by_splitting(rule, harvest, least, most, start, after, marks, budgets);
+}
+
+// Writes the plan's budgets where some frame is bounded.
+fn plan_bounded(
+    rule: Rule,
+    harvest: &[u32],
+    least: &[u32],
+    most: &[u32],
+    start: u64,
+    after: &mut [u32],
+    marks: &mut [u32],
+    budgets: &mut [u32],
+)
+    requires { ⌜ Lent rule (now harvest) (now least) (now most) start (now after) (now budgets) ⌝ }
+    ensures { λ _. ⌜ PlannedAt rule (now (harvest .entry)) (now (least .entry)) (now (most .entry)) start
+        (now (budgets .exit)) ⌝ }
+{
+    if by_one_shared_level(rule, harvest, least, most, start, after, budgets) {
+        return;
+    }
+    plan_by_curve(rule, harvest, least, most, start, after, marks, budgets);
+}
+
+// Writes the plan's budgets where no frame is bounded.
+fn plan_unbounded(
+    rule: Rule,
+    harvest: &[u32],
+    least: &[u32],
+    most: &[u32],
+    start: u64,
+    after: &mut [u32],
+    marks: &mut [u32],
+    budgets: &mut [u32],
+)
+    requires { ⌜ Lent rule (now harvest) (now least) (now most) start (now after) (now budgets) ⌝ }
+    ensures { λ _. ⌜ PlannedAt rule (now (harvest .entry)) (now (least .entry)) (now (most .entry)) start
+        (now (budgets .exit)) ⌝ }
+{
+    if by_one_level(rule, harvest, least, most, start, after, budgets) {
         return;
     }
     plan_by_string(rule, harvest, least, most, start, after, marks, budgets);
@@ -124,10 +293,11 @@ fn plan_with(
     ensures { λ _. ⌜ PlannedAt rule (now (harvest .entry)) (now (least .entry)) (now (most .entry)) start
         (now (budgets .exit)) ⌝ }
 {
-    if by_one_level(rule, harvest, least, most, start, after, budgets) {
+    if is_bounded(least, most) {
+        plan_bounded(rule, harvest, least, most, start, after, marks, budgets);
         return;
     }
-    plan_by_many_levels(rule, harvest, least, most, start, after, marks, budgets);
+    plan_unbounded(rule, harvest, least, most, start, after, marks, budgets);
 }
 
 // The same with lists for a day, which take less time to clear.

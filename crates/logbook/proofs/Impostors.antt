@@ -13,7 +13,7 @@ use lib.Seq.{length-take-le, drop-at}
 use borrow.Author.Tests.{eq-eqb, eqb-true, not-true}
 use Rattle.model.specs.declared.Refusal.{Refusal}
 use Rattle.model.specs.Limits.{noUpperEnd}
-use Rattle.model.specs.Request.{Request, figures, request, boundsOf}
+use Rattle.model.specs.Request.{Request, figures, boundedRequest, boundsOf}
 use Rattle.model.specs.Refusals.{refusal, isNone, firstOf, wrongLength, harvestOverLimit, reachable}
 use Rattle.model.specs.Trace.{trace, lastFrom}
 use Rattle.model.specs.Charge.{atHand, feasible}
@@ -124,7 +124,9 @@ abbrev pub harvests : List ℕ
 harvests = 6 ∷ 4 ∷ 0 ∷ 0 ∷ 5 ∷ 5 ∷ []
 
 abbrev pub listed : Request
-listed = request (figures 5 2 2) harvests
+listed =
+    boundedRequest (figures 5 2 2) harvests (0 ∷ 0 ∷ 0 ∷ 0 ∷ 0 ∷ 0 ∷ [])
+    (noUpperEnd ∷ noUpperEnd ∷ noUpperEnd ∷ noUpperEnd ∷ noUpperEnd ∷ noUpperEnd ∷ [])
 
 abbrev pub first-plan : List ℕ
 first-plan = 4 ∷ 3 ∷ 3 ∷ 2 ∷ 4 ∷ 4 ∷ []
@@ -138,7 +140,8 @@ unbounded hs =
     lists hs (0 ∷ 0 ∷ 0 ∷ 0 ∷ 0 ∷ 0 ∷ [])
     (noUpperEnd ∷ noUpperEnd ∷ noUpperEnd ∷ noUpperEnd ∷ noUpperEnd ∷ noUpperEnd ∷ [])
 
--- its forecast, another one with no harvest in frame 2, and the first with a least of 3 in frame 4
+-- its forecast, another one with no harvest in frame 2, and the first with a least of 3 in frame 4 or a most of 1 in
+-- frame 2
 abbrev pub forecast : Lists
 forecast = unbounded harvests
 
@@ -147,6 +150,10 @@ fewer-harvests = unbounded (6 ∷ 0 ∷ 0 ∷ 0 ∷ 5 ∷ 5 ∷ [])
 
 abbrev pub with-least : Lists
 with-least = lists harvests (0 ∷ 0 ∷ 0 ∷ 3 ∷ 0 ∷ 0 ∷ []) (forecast .most)
+
+abbrev pub with-most : Lists
+with-most =
+    lists harvests (forecast .least) (noUpperEnd ∷ 1 ∷ noUpperEnd ∷ noUpperEnd ∷ noUpperEnd ∷ noUpperEnd ∷ [])
 
 -- planning by lists of six that are not refused writes the rest's budgets behind the budget of frame 1, into any list
 -- of six
@@ -183,6 +190,13 @@ rest-with-least :
 unfolding planOf framesOf plan budget largest reserve
 rest-with-least b b′ a l p = rest-is with-least b b′ a refl l p
 
+-- with a most of 1 in frame 2 they are 1, 2, 1, 4, 4
+rest-with-most :
+    (b b′ : List ℕ) (a : RestAnswer) → length b ≡ 6 → RestSays after-one with-most b b′ a →
+    drop 1 b′ ≡ 1 ∷ 2 ∷ 1 ∷ 4 ∷ 4 ∷ []
+unfolding planOf framesOf plan budget largest reserve
+rest-with-most b b′ a l p = rest-is with-most b b′ a refl l p
+
 -- so the first plan kept for the whole shift is no answer, whatever list of six was lent
 pub not-first-plan :
     (b b′ : List ℕ) (a : RestAnswer) → length b ≡ 6 → RestSays after-one forecast b b′ a →
@@ -210,11 +224,19 @@ not-fixed b b′ c c′ x y l m p q z =
     ∙ (z ∙ rest-fewer c c′ y m q)) in
     omega arith
 
--- the plan without bounds is no answer where a least binds: bounds that planning is lent are not passed over
-pub not-unbounded :
+-- the plan without bounds is no answer where a least or a most binds: bounds that planning is lent are not passed over
+pub most-not-passed-over :
+    (b b′ c c′ : List ℕ) (x y : RestAnswer) → length b ≡ 6 → length c ≡ 6 → RestSays after-one forecast b b′ x →
+    RestSays after-one with-most c c′ y → drop 1 b′ ≡ drop 1 c′ → ⊥
+most-not-passed-over b b′ c c′ x y l m p q z =
+    let e : _≡_ {A = ℕ} 2 1 = ap (λ (xs : List ℕ). getD xs 0 0) (sym (rest-listed b b′ x l p)
+    ∙ (z ∙ rest-with-most c c′ y m q)) in
+    omega arith
+
+pub least-not-passed-over :
     (b b′ c c′ : List ℕ) (x y : RestAnswer) → length b ≡ 6 → length c ≡ 6 → RestSays after-one forecast b b′ x →
     RestSays after-one with-least c c′ y → drop 1 b′ ≡ drop 1 c′ → ⊥
-not-unbounded b b′ c c′ x y l m p q z =
+least-not-passed-over b b′ c c′ x y l m p q z =
     let e : _≡_ {A = ℕ} 2 1 = ap (λ (xs : List ℕ). getD xs 0 0) (sym (rest-listed b b′ x l p)
     ∙ (z ∙ rest-with-least c c′ y m q)) in
     omega arith

@@ -18,6 +18,7 @@ pub mod Requirement
 pub mod Ceilings
 pub mod Bridge
 pub mod Reach
+pub mod Absent
 pub mod Request
 pub mod Needed
 pub mod Peak

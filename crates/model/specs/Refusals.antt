@@ -66,7 +66,8 @@ abbrev pub harvestOverLimit : ℕ → List ℕ → Refusal
 harvestOverLimit k [] = none
 harvestOverLimit k (h ∷ hs) = elim (ltb maxHarvest h) [ true ↦ refusal 6 k | false ↦ harvestOverLimit (suc k) hs ]
 
--- bounds that no frame may have: a least above its most, or either above its limit
+-- bounds that no frame may have: a least above its most, a least above its limit, or a most above it that is not "no
+-- upper end"
 abbrev pub badBounds : Bounds → Bool
 badBounds w =
     ltb (w .most) (w .least)

@@ -11,6 +11,7 @@ pub use number::TOP;
 pub use number::greater;
 pub use number::less;
 pub use number::lesser;
+pub use number::low_bits;
 pub use number::minus;
 pub use number::over;
 pub use number::plus;

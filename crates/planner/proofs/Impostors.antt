@@ -4,7 +4,8 @@ use mathlib.Core.List.{List, [], _∷_}
 use Prim.Native.Nat.{ℕ}
 use native.Mathlib.Omega.{arith}
 use Rattle.model.specs.declared.Refusal.{Refusal}
-use Rattle.model.specs.Request.{Request, figures, request}
+use Rattle.model.specs.Limits.{noUpperEnd}
+use Rattle.model.specs.Request.{Request, figures, boundedRequest}
 use Rattle.model.specs.Refusals.{planRefusal, neededRefusal}
 use Rattle.model.specs.Frames.{reserve, largest, budget, plan, requirement, peak}
 use Rattle.model.specs.Plan.{framesOf, planOf, openPlan, neededOf}
@@ -20,10 +21,10 @@ heads x y xs ys h p = h (cc)
 
 -- harvest 1, 2, and the other way round
 abbrev pub rising : Request
-rising = request (figures 9 0 0) (1 ∷ 2 ∷ [])
+rising = boundedRequest (figures 9 0 0) (1 ∷ 2 ∷ []) (0 ∷ 0 ∷ []) (noUpperEnd ∷ noUpperEnd ∷ [])
 
 abbrev pub falling : Request
-falling = request (figures 9 0 0) (2 ∷ 1 ∷ [])
+falling = boundedRequest (figures 9 0 0) (2 ∷ 1 ∷ []) (0 ∷ 0 ∷ []) (noUpperEnd ∷ noUpperEnd ∷ [])
 
 -- the plan of harvest 1, 2 is 1, 2
 written : (bs : List ℕ) (x y : ℕ) (r : PlanAnswer) → PlanSays rising 2 2 (x ∷ y ∷ []) bs r → bs ≡ 1 ∷ 2 ∷ []

@@ -1,6 +1,7 @@
 //! Families of harvests and capacities, with bounds or without, for tests and benchmarks.
 
 use crate::algorithms::certificate;
+use crate::bounds::{around, Kind};
 use crate::lists::Lists;
 use crate::random::Random;
 use crate::reference::limits::{MAX_CAPACITY, MAX_FRAMES};
@@ -161,30 +162,11 @@ pub fn full(figures: Figures) -> Figures {
     }
 }
 
-/// Random bounds for a request that is within reach, which it stays. By chance a third of the frames has a least of up to
-/// twice the budget that the frame has without bounds, but no more than the leasts before it leave; a third, whether or not
-/// it has a least, a most from there up to twice that budget. Over all families three in ten budgets are then refused by a
-/// bound.
+/// Random bounds for a request that is within reach, which it stays: of the kind by which about a third of all budgets are
+/// at a bound.
 pub fn bounded(figures: Figures, harvest: Vec<u32>, random: &mut Random) -> Lists {
     let Figures { capacity, start, end } = figures;
-    let (capacity, start, end) = (u64::from(capacity), u64::from(start), u64::from(end));
-    let plan = certificate::plan(capacity, start, end, &harvest);
-    let mut lists = Lists::unbounded(harvest);
-    let mut behind: u64 = lists.harvest.iter().map(|&h| u64::from(h)).sum();
-    let mut charge = start;
-    for (i, &budget) in plan.iter().enumerate() {
-        let harvest = u64::from(lists.harvest[i]);
-        behind -= harvest;
-        let spare = charge + harvest - end.saturating_sub(behind);
-        let twice = 2 * u64::from(budget);
-        if random.one_in(3) {
-            lists.least[i] = random.up_to(twice).min(spare) as u32;
-        }
-        let least = u64::from(lists.least[i]);
-        if random.one_in(3) {
-            lists.most[i] = (least + random.up_to(twice.saturating_sub(least))) as u32;
-        }
-        charge = capacity.min(charge + harvest - least);
-    }
-    lists
+    let plan = certificate::plan(capacity.into(), start.into(), end.into(), &harvest);
+    let (least, most) = around(Kind::Mixed, figures, &harvest, &plan, random);
+    Lists { harvest, least, most }
 }

@@ -1,8 +1,8 @@
 //! Document 01's entries by guess, certify, follow, the rest as in the reference: the baseline for speed.
 
-use crate::algorithms::certificate::frame::{Frame, Listed, Plain};
+use crate::algorithms::certificate::frame::{Bounded, Plain};
 use crate::algorithms::certificate::{plan_frames, Counters, Scratch};
-use crate::reference::charge::{most_energy, unlimited, Store};
+use crate::reference::charge::{unlimited, Store};
 use crate::reference::limits::NO_UPPER_END;
 use crate::reference::needed::by_requirement;
 use crate::reference::refusals::{self, Checked};
@@ -41,32 +41,15 @@ fn needed_refusal(figures: Figures, frames: Frames) -> Checked {
     refusals::end_charge(figures.into(), frames.harvest)
 }
 
-/// The frames of a bounded request as the theory has them: no upper end is all that there is.
-fn listed(store: Store, frames: Frames) -> Listed {
-    let all = most_energy(store, frames.harvest);
-    let bounds = frames.least.iter().zip(frames.most);
-    let each = frames.harvest.iter().zip(bounds).map(|(&h, (&least, &most))| Frame {
-        inflow: h.into(),
-        ceiling: store.capacity + u64::from(h),
-        drain: 0,
-        least: least.into(),
-        most: if most == NO_UPPER_END { all } else { most.into() },
-    });
-    Listed {
-        start: store.start,
-        end: store.end,
-        frames: each.collect(),
-    }
-}
-
 /// Writes the plan of a request that is within reach, and counts which guess it was.
 pub fn plan_into(store: Store, frames: Frames, budgets: &mut [u32], counters: &mut Counters) {
+    let Frames { harvest, least, most } = frames;
+    let plain = Plain::new(store.capacity, store.start, store.end, harvest);
     let mut scratch = Scratch::new(budgets.len());
     if is_plain(frames) {
-        let plain = Plain::new(store.capacity, store.start, store.end, frames.harvest);
         plan_frames(&plain, &mut scratch, budgets, counters);
     } else {
-        plan_frames(&listed(store, frames), &mut scratch, budgets, counters);
+        plan_frames(&Bounded { plain, least, most }, &mut scratch, budgets, counters);
     }
 }
 

@@ -2,6 +2,7 @@
 //! the algorithms that serve as baselines, and cases that can be printed and run again.
 
 pub mod algorithms;
+pub mod bounds;
 pub mod cases;
 pub mod check;
 pub mod families;

@@ -1,10 +1,12 @@
 //! Guess, certify, follow: its budgets against the definition of the plan, every guess by itself, and what the splitting costs.
 
 use energy::{Figures, Frames as Lent};
-use evidence::algorithms::certificate::frame::{Frame, Frames, Listed, Plain};
+use evidence::algorithms::certificate::curve::{curve, knots};
+use evidence::algorithms::certificate::frame::{Bounded, Frame, Frames, Listed, Plain};
 use evidence::algorithms::certificate::search::search;
 use evidence::algorithms::certificate::sight::{draw_by_sight, first_apex, ALLOWANCE};
-use evidence::algorithms::certificate::{by_split, by_string, needed, plan_frames, Counters, Scratch};
+use evidence::algorithms::certificate::{by_split, by_string, finish, needed, plan_frames, Counters, Scratch};
+use evidence::bounds::{around, Kind, KINDS};
 use evidence::families::{full, request, Family, Size, FAMILIES, FRAMES, SIZES};
 use evidence::random::{seed, Random};
 use evidence::reference::charge::Store;
@@ -201,6 +203,18 @@ fn string_alone(frames: &impl Frames, allowance: u64) -> Option<Vec<u32>> {
     by_string(frames, allowance, &mut Scratch::new(frames.count()), &mut budgets).then_some(budgets)
 }
 
+/// The plan by the curve alone; none where its allowance is used up.
+fn curve_alone(frames: &(impl Frames + Debug)) -> Option<Vec<u32>> {
+    let count = frames.count();
+    let mut levels = vec![0; count];
+    let drawn = curve(frames, &mut levels, &mut vec![0; count], &mut vec![0; knots(count)]);
+    drawn.then(|| {
+        let certified = finish(frames, &mut Scratch::new(count), &mut levels);
+        assert!(certified, "the curve of {frames:?}");
+        levels
+    })
+}
+
 /// The plan by the splitting alone, if it is certified.
 fn split_alone(frames: &impl Frames, counters: &mut Counters) -> Option<Vec<u32>> {
     let mut budgets = vec![0; frames.count()];
@@ -220,12 +234,18 @@ struct Seen {
     guesses: Counters,
     alone: Counters,
     worst: f64,
+    /// Curves that were given up.
+    given_up: u64,
 }
 
 impl Seen {
-    /// The plan, by all guesses in their order and by the splitting alone.
+    /// The plan, by all guesses in their order, by the curve alone and by the splitting alone.
     fn plan(&mut self, frames: &(impl Frames + Debug)) -> Vec<u32> {
         let plan = planned(frames, &mut self.guesses);
+        match curve_alone(frames) {
+            Some(levels) => assert_eq!(levels, plan, "the curve of {frames:?}"),
+            None => self.given_up += 1,
+        }
         let mut counters = Counters::default();
         let split = split_alone(frames, &mut counters);
         assert_eq!(split.as_ref(), Some(&plan), "the splitting of {frames:?}");
@@ -249,15 +269,22 @@ impl Seen {
     /// Prints what was seen, and gives the weighings of the worst request for each of its frames. No budget was searched, and
     /// no frame was weighed too often.
     fn close(self, name: &str) -> f64 {
-        let Seen { guesses, alone, worst } = self;
+        let Seen {
+            guesses,
+            alone,
+            worst,
+            given_up,
+        } = self;
         let Counters {
             one_level,
             string,
+            curve,
             split,
             search,
             ..
         } = guesses;
-        println!("{name}: certified: one level {one_level}, string {string}, splitting {split}; searched: {search}");
+        println!("{name}: certified: one level {one_level}, string {string}, curve {curve}, splitting {split}");
+        println!("{name}: searched: {search}; curves given up: {given_up}");
         let mean = alone.weighed as f64 / alone.split_frames as f64;
         let most = alone.most_weighed;
         println!("{name}: weighings: mean {mean:.2}, of the worst request {worst:.2}, of the worst frame {most}");
@@ -336,6 +363,38 @@ fn families_and_sizes() {
     }
     assert_eq!(seen.guesses.split, 0, "a string was not certified");
     assert!(seen.close("families") < LARGE_WEIGHINGS);
+}
+
+/// The plan of a request with bounds around its budgets without.
+fn bounded_plan(seen: &mut Seen, kind: Kind, figures: Figures, harvest: &[u32], random: &mut Random) -> Vec<u32> {
+    let Figures { capacity, start, end } = figures;
+    let plain = Plain::new(capacity.into(), start.into(), end.into(), harvest);
+    let without = planned(&plain, &mut Counters::default());
+    let (least, most) = around(kind, figures, harvest, &without, random);
+    let (least, most) = (&least, &most);
+    seen.plan(&Bounded { plain, least, most })
+}
+
+#[test]
+fn families_and_sizes_with_bounds() {
+    for kind in KINDS {
+        let mut seen = Seen::default();
+        for frames in [1, 2, 7].into_iter().chain(FRAMES) {
+            for (i, family) in FAMILIES.into_iter().enumerate() {
+                for size in SIZES {
+                    let mut random = Random::of_case(seed(), 14_000_000 + i as u64);
+                    let (figures, harvest) = request(family, size, frames, 1_000, &mut random);
+                    for figures in [figures, full(figures)] {
+                        bounded_plan(&mut seen, kind, figures, &harvest, &mut random);
+                    }
+                }
+            }
+        }
+        if kind == Kind::Mixed {
+            assert_eq!(seen.guesses.split, 0, "a curve was given up");
+        }
+        seen.close(&format!("families with bounds, {kind:?}"));
+    }
 }
 
 /// Whether the string of a family's request is drawn to its end by sight.

@@ -41,6 +41,8 @@ pub trait Frames {
     fn at(&self, i: usize) -> Frame;
     /// All that comes in, less what is drained.
     fn brought(&self) -> u64;
+    /// All that there is: no budget is above it.
+    fn energy(&self) -> u64;
     /// The capacity where no frame is bounded or drained and every ceiling is the capacity and the inflow.
     fn plain_capacity(&self) -> Option<u64>;
 }
@@ -101,8 +103,66 @@ impl Frames for Plain<'_> {
         self.most - self.start
     }
 
+    fn energy(&self) -> u64 {
+        self.most
+    }
+
     fn plain_capacity(&self) -> Option<u64> {
         Some(self.capacity)
+    }
+}
+
+/// Frames with leasts and mosts, lists as long as the harvest: `Plain` frames but for the bounds of their budgets.
+#[derive(Clone, Copy, Debug)]
+pub struct Bounded<'a> {
+    pub plain: Plain<'a>,
+    pub least: &'a [u32],
+    pub most: &'a [u32],
+}
+
+/// The most that stands for no upper end.
+pub const NO_UPPER_END: u32 = u32::MAX;
+
+impl Frames for Bounded<'_> {
+    #[inline(always)]
+    fn start(&self) -> u64 {
+        self.plain.start
+    }
+
+    #[inline(always)]
+    fn end(&self) -> u64 {
+        self.plain.end
+    }
+
+    #[inline(always)]
+    fn count(&self) -> usize {
+        self.plain.count()
+    }
+
+    #[inline(always)]
+    fn at(&self, i: usize) -> Frame {
+        let frame = self.plain.at(i);
+        Frame {
+            least: u64::from(self.least[i]),
+            most: match self.most[i] {
+                NO_UPPER_END => frame.most,
+                most => u64::from(most),
+            },
+            ..frame
+        }
+    }
+
+    fn brought(&self) -> u64 {
+        self.plain.brought()
+    }
+
+    fn energy(&self) -> u64 {
+        self.plain.energy()
+    }
+
+    fn plain_capacity(&self) -> Option<u64> {
+        let unbounded = self.least.iter().all(|&l| l == 0) && self.most.iter().all(|&m| m == NO_UPPER_END);
+        unbounded.then_some(self.plain.capacity)
     }
 }
 
@@ -134,6 +194,10 @@ impl Frames for Listed {
     fn brought(&self) -> u64 {
         let sum = |part: fn(&Frame) -> u64| self.frames.iter().map(part).sum::<u64>();
         sum(|f| f.inflow).saturating_sub(sum(|f| f.drain))
+    }
+
+    fn energy(&self) -> u64 {
+        self.start + self.frames.iter().map(|f| f.inflow).sum::<u64>()
     }
 
     fn plain_capacity(&self) -> Option<u64> {

@@ -6,6 +6,7 @@
 //! not, and the level rises only where the store is empty and falls only where it is full. So a guess needs no proof.
 
 pub mod certify;
+pub mod curve;
 pub mod follow;
 pub mod frame;
 pub mod one_level;
@@ -21,6 +22,7 @@ use frame::{Frames, Plain};
 pub struct Counters {
     pub one_level: u64,
     pub string: u64,
+    pub curve: u64,
     pub split: u64,
     /// No guess was certified: every frame's budget was searched.
     pub search: u64,
@@ -35,6 +37,7 @@ pub struct Counters {
 pub struct Scratch {
     after: Vec<u32>,
     marks: Vec<u32>,
+    knots: Vec<u64>,
 }
 
 impl Scratch {
@@ -43,6 +46,7 @@ impl Scratch {
         Scratch {
             after: vec![0; frames],
             marks: vec![0; frames],
+            knots: vec![0; curve::knots(frames)],
         }
     }
 }
@@ -61,12 +65,17 @@ pub fn by_one_level(frames: &impl Frames, scratch: &mut Scratch, budgets: &mut [
     one_level::one_level(frames, budgets) && finish(frames, scratch, budgets)
 }
 
+/// The same where some frame is bounded.
+pub fn by_one_shared_level(frames: &impl Frames, scratch: &mut Scratch, budgets: &mut [u32]) -> bool {
+    one_level::one_shared_level(frames, budgets) && finish(frames, scratch, budgets)
+}
+
 /// The plan by the string, where no frame is bounded. The allowance is that of drawing it by sight: with none, the funnel draws
 /// it alone.
 pub fn by_string(frames: &impl Frames, allowance: u64, scratch: &mut Scratch, budgets: &mut [u32]) -> bool {
     match frames.plain_capacity() {
         Some(capacity) => {
-            let Scratch { after, marks } = scratch;
+            let Scratch { after, marks, .. } = scratch;
             string::string(frames, capacity, allowance, budgets, marks, after);
             finish(frames, scratch, budgets)
         }
@@ -74,10 +83,16 @@ pub fn by_string(frames: &impl Frames, allowance: u64, scratch: &mut Scratch, bu
     }
 }
 
+/// The plan by the curve.
+pub fn by_curve(frames: &impl Frames, scratch: &mut Scratch, budgets: &mut [u32]) -> bool {
+    let Scratch { marks, knots, .. } = scratch;
+    curve::curve(frames, budgets, marks, knots) && finish(frames, scratch, budgets)
+}
+
 /// The plan by the splitting.
 pub fn by_split(frames: &impl Frames, scratch: &mut Scratch, budgets: &mut [u32], counters: &mut Counters) -> bool {
     counters.split_frames += frames.count() as u64;
-    let Scratch { after, marks } = scratch;
+    let Scratch { after, marks, .. } = scratch;
     split::split(frames, budgets, after, marks, &mut counters.weighed);
     // The splitting leaves there how often each frame was weighed.
     let most = marks[..frames.count()].iter().copied().max().unwrap_or(0);
@@ -85,17 +100,43 @@ pub fn by_split(frames: &impl Frames, scratch: &mut Scratch, budgets: &mut [u32]
     finish(frames, scratch, budgets)
 }
 
-/// Writes the plan of frames whose end charge is within reach: the first guess that is certified, or else every budget searched.
-pub fn plan_frames(frames: &impl Frames, scratch: &mut Scratch, budgets: &mut [u32], counters: &mut Counters) {
-    if by_one_level(frames, scratch, budgets) {
-        counters.one_level += 1;
-    } else if by_string(frames, sight::ALLOWANCE, scratch, budgets) {
-        counters.string += 1;
-    } else if by_split(frames, scratch, budgets, counters) {
+/// Writes the plan by the splitting, or else every budget searched.
+fn plan_by_splitting(frames: &impl Frames, scratch: &mut Scratch, budgets: &mut [u32], counters: &mut Counters) {
+    if by_split(frames, scratch, budgets, counters) {
         counters.split += 1;
     } else {
         search::search(frames, budgets);
         counters.search += 1;
+    }
+}
+
+/// Writes the plan where some frame is bounded.
+fn plan_bounded(frames: &impl Frames, scratch: &mut Scratch, budgets: &mut [u32], counters: &mut Counters) {
+    if by_one_shared_level(frames, scratch, budgets) {
+        counters.one_level += 1;
+    } else if by_curve(frames, scratch, budgets) {
+        counters.curve += 1;
+    } else {
+        plan_by_splitting(frames, scratch, budgets, counters);
+    }
+}
+
+/// Writes the plan where no frame is bounded.
+fn plan_unbounded(frames: &impl Frames, scratch: &mut Scratch, budgets: &mut [u32], counters: &mut Counters) {
+    if by_one_level(frames, scratch, budgets) {
+        counters.one_level += 1;
+    } else if by_string(frames, sight::ALLOWANCE, scratch, budgets) {
+        counters.string += 1;
+    } else {
+        plan_by_splitting(frames, scratch, budgets, counters);
+    }
+}
+
+/// Writes the plan of frames in which something is feasible: the first guess that is certified, or else every budget searched.
+pub fn plan_frames(frames: &impl Frames, scratch: &mut Scratch, budgets: &mut [u32], counters: &mut Counters) {
+    match frames.plain_capacity() {
+        Some(_) => plan_unbounded(frames, scratch, budgets, counters),
+        None => plan_bounded(frames, scratch, budgets, counters),
     }
 }
 

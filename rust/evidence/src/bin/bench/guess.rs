@@ -17,6 +17,7 @@ pub fn guess(row: &Row) -> String {
     let Counters {
         one_level,
         string,
+        curve,
         split,
         search,
         ..
@@ -24,6 +25,7 @@ pub fn guess(row: &Row) -> String {
     let all = [
         ("one level", one_level),
         ("string", string),
+        ("curve", curve),
         ("splitting", split),
         ("searched", search),
     ];
