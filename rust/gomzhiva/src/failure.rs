@@ -7,8 +7,8 @@ use std::io;
 /// A command that was not done.
 #[derive(Debug)]
 pub enum Failure {
-    /// The library refused the figures, by document 01's number; the program may know more.
-    Refused { refusal: Refusal, more: String },
+    /// The library refused the figures, by document 01's number; the sentence may say more than the library's.
+    Refused { refusal: Refusal, sentence: String },
     /// Bad usage, or a text that is no request or no journal.
     Fault(String),
     /// Reading or writing failed.
@@ -28,7 +28,7 @@ impl Failure {
     /// The same failure with more to tell.
     pub fn with(mut self, more: &str) -> Failure {
         match &mut self {
-            Failure::Refused { more: text, .. } | Failure::Fault(text) | Failure::System { reason: text, .. } => {
+            Failure::Refused { sentence: text, .. } | Failure::Fault(text) | Failure::System { reason: text, .. } => {
                 *text += &format!("; {more}");
             }
         }
@@ -55,15 +55,15 @@ impl Failure {
 
 impl From<Refusal> for Failure {
     fn from(refusal: Refusal) -> Failure {
-        let more = String::new();
-        Failure::Refused { refusal, more }
+        let sentence = refusal.sentence();
+        Failure::Refused { refusal, sentence }
     }
 }
 
 impl fmt::Display for Failure {
     fn fmt(&self, f: &mut fmt::Formatter<'_>) -> fmt::Result {
         match self {
-            Failure::Refused { refusal, more } => write!(f, "gomzhiva: {refusal}: {}{more}", refusal.sentence()),
+            Failure::Refused { refusal, sentence } => write!(f, "gomzhiva: {refusal}: {sentence}"),
             Failure::Fault(message) => f.write_str(message),
             Failure::System { name, reason } => write!(f, "gomzhiva: {name}: {reason}"),
         }

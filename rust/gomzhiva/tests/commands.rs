@@ -291,12 +291,14 @@ fn a_trace_tells_where_budgets_leave_the_bounds() {
             .collect();
         assert_eq!((&trace(&["--csv"]).err, &trace(&["--chart", "-"]).err), (&told, &told));
         let title = trace(&["--chart", "-"]).text();
-        assert_eq!(
-            title.contains(": not within the bounds\n"),
-            bounds.is_some(),
-            "{budgets}"
-        );
-        assert_eq!(title.contains(": not feasible"), is_amiss.is_some(), "{budgets}");
+        let amiss = match (is_amiss, bounds) {
+            (None, None) => "",
+            (None, Some(_)) => ": not within the bounds",
+            (Some(_), None) => ": not feasible",
+            (Some(_), Some(_)) => ": not feasible, and not within the bounds",
+        };
+        let expected = format!("\nstandard input traced with bounded.txt{amiss}\n");
+        assert!(title.contains(&expected), "{budgets}");
     }
     // The tracer looks at no bounds, so it refuses none either.
     let crossed = BOUNDED.replace("0 3 -", "0 3 1");
@@ -312,14 +314,24 @@ fn a_trace_tells_where_budgets_leave_the_bounds() {
 #[test]
 fn bounds_that_cannot_be_are_refused_with_their_frame() {
     let folder = Folder::new();
-    for (bounds, more) in [
-        ("3 1", "its least is 3 Wh and its most is 1 Wh"),
-        ("536870912 -", "its least is 536870912 Wh"),
-        ("- 536870912", "its most is 536870912 Wh"),
-        ("4294967295 4294967295", "its least is 4294967295 Wh"),
+    let limit = "the limit of 536870911 Wh";
+    for (bounds, sentence) in [
+        ("3 1", "least of frame 2 is 3 Wh, above its most of 1 Wh".to_string()),
+        (
+            "536870912 -",
+            format!("least of frame 2 is 536870912 Wh, above {limit}"),
+        ),
+        (
+            "536870912 3",
+            format!("least of frame 2 is 536870912 Wh, above {limit}"),
+        ),
+        ("- 536870912", format!("most of frame 2 is 536870912 Wh, above {limit}")),
+        (
+            "4294967295 4294967295",
+            format!("least of frame 2 is 4294967295 Wh, above {limit}"),
+        ),
     ] {
         let request = format!("capacity 5\nstart 2\nend 2\nharvest least most\n6 - -\n4 {bounds}\n5 9 1\n");
-        let sentence = "the least of frame 2 is above its most, or one of them is above 536870911 Wh";
         for command in [
             "plan -",
             "plan --listing -",
@@ -332,7 +344,7 @@ fn bounds_that_cannot_be_are_refused_with_their_frame() {
             assert_refused(&ran, "refused 10 2");
             assert_eq!(
                 ran.err,
-                format!("gomzhiva: refused 10 2: {sentence}; {more}\n"),
+                format!("gomzhiva: refused 10 2: the {sentence}\n"),
                 "{command}"
             );
         }
@@ -352,7 +364,8 @@ fn bounds_that_cannot_be_are_refused_with_their_frame() {
         let ran = folder.run(command);
         assert_refused(&ran, "refused 10 1");
         assert!(
-            ran.err.ends_with("; its least is 4 Wh and its most is 3 Wh\n"),
+            ran.err
+                .ends_with(": the least of frame 1 is 4 Wh, above its most of 3 Wh\n"),
             "{}",
             ran.err
         );
@@ -373,6 +386,48 @@ fn a_plan_and_the_needed_capacity_can_differ_in_what_is_feasible() {
     assert_done(
         &larger,
         "frame,harvest,least,budget,charge,loss\n1,6,,1,5,0\n2,0,5,5,0,0\n",
+    );
+}
+
+#[test]
+fn leasts_out_of_reach_are_refused_with_where_and_how_much() {
+    let folder = Folder::new();
+    let plans = ["plan -", "plan --listing -", "shift start - --journal out"];
+    let reach = "the leasts are out of reach: as budgets they";
+    let (most, all) = ("1000000000", "400000 -\n0 536870911\n");
+    let refused = |commands: &[&str], figures: [&str; 3], frames: &str, sentence: &str| {
+        let [capacity, start, end] = figures;
+        let request = format!("capacity {capacity}\nstart {start}\nend {end}\nharvest least\n{frames}");
+        for command in commands {
+            let ran = folder.run_with(&command.split(' ').collect::<Vec<_>>(), request.as_bytes());
+            assert_refused(&ran, "refused 11 0");
+            let told = format!("gomzhiva: refused 11 0: {sentence}\n");
+            assert_eq!(ran.err, told, "{command} of {request}");
+        }
+        assert!(folder.names().is_empty());
+    };
+    // With a larger battery they are feasible.
+    let dry = format!("{reach} run the store dry in frame 2; a capacity of 5 Wh would be enough");
+    refused(&plans, ["2", "0", "0"], "6 -\n0 5\n", &dry);
+    let low = format!("{reach} leave 2 Wh, and 3 Wh were asked for; a capacity of 6 Wh would be enough");
+    refused(&plans, ["5", "0", "3"], "6 -\n0 3\n", &low);
+    // With none they are.
+    let every = [&plans[..], &["needed -"]].concat();
+    let low = format!("{reach} leave 1 Wh, and 2 Wh were asked for");
+    refused(&every, ["5", "2", "2"], "6 7\n0 -\n", &low);
+    let dry = format!("{reach} run the store dry in frame 2");
+    refused(&every, ["9", "2", "2"], "6 7\n0 2\n9 -\n", &dry);
+    // One that is larger than any may be is no advice.
+    let dry = format!("{reach} run the store dry in frame 3");
+    let below = ["999999999"; 2];
+    refused(&plans, [below[0], below[1], "0"], &format!("{all}0 463529088\n"), &dry);
+    // The needed capacity goes by unlimited storage, where frame 3 has enough.
+    let general = format!("{reach} run the store dry, or leave less than the end charge");
+    refused(
+        &["needed -"],
+        ["5", most, "0"],
+        &format!("{all}0 463300000\n0 300000\n"),
+        &general,
     );
 }
 

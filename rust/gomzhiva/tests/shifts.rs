@@ -270,23 +270,24 @@ fn a_picture_shows_the_bounds_of_recorded_and_planned_frames() {
     ] {
         assert!(text.contains(&format!("\n{name}\n")), "{name}");
     }
-    // The mosts of frames 1, 3 and 6 and the least of frame 4, each a bracket that is as wide as its frame.
+    // The mosts of frames 1, 3 and 6 and the least of frame 4, each a bracket that is nearly as wide as its frame.
     let brackets = |colour: &str| -> Vec<Vec<i32>> {
         let drawn = text.lines().filter(|line| line.contains(colour)).skip(1);
         drawn.map(columns_of).collect()
     };
     let now = number_behind(&text, "\nnow\n", "x");
     let (most, least) = (brackets("#286EC8"), brackets("#148C5A"));
-    let [begin, end] = [most[0][0], most[0][3]];
-    assert_eq!(end, now, "frame 1 is recorded, and ends now");
+    let gap = now - most[0][1];
+    assert!((0..=5).contains(&gap), "frame 1 is recorded, and ends now: {gap}");
+    let begin = most[0][0] - gap;
     let frame = |number: i32| {
-        let edge = |frames: i32| begin + (end - begin) * frames;
+        let edge = |frames: i32| begin + (now - begin) * frames;
         [edge(number - 1), edge(number)]
     };
     for (bracket, number) in most.iter().chain(&least).zip([1, 3, 6, 4]) {
         let [left, right] = frame(number);
         assert!(
-            (bracket[0] - left).abs() <= 6 && (bracket[3] - right).abs() <= 6,
+            (bracket[0] - left - gap).abs() <= 6 && (bracket[1] - right + gap).abs() <= 6,
             "{bracket:?} of frame {number}"
         );
     }
@@ -712,6 +713,29 @@ fn a_journal_of_a_longer_shift_than_there_may_be_is_refused() {
     }
     assert_eq!(folder.read("journal"), before);
     assert_eq!(folder.names(), ["journal"]);
+}
+
+#[test]
+fn a_journal_whose_bounds_are_refused_says_which_they_are() {
+    let folder = Folder::new();
+    for (start, refused) in [
+        (
+            "start capacity 5 start 2 end 2 harvest 6 4 least - 3 most - 1",
+            "refused 10 2: the least of frame 2 is 3 Wh, above its most of 1 Wh",
+        ),
+        (
+            "start capacity 2 start 0 end 0 harvest 6 0 least - 5",
+            "refused 11 0: the leasts are out of reach: as budgets they run the store dry in frame 2; \
+             a capacity of 5 Wh would be enough",
+        ),
+    ] {
+        folder.write("journal", sealed(start));
+        for arguments in COMMANDS {
+            let ran = folder.run(arguments);
+            let told = format!("gomzhiva: {refused}; journal starts such a shift, and stays as it is\n");
+            assert_eq!((ran.status, ran.err), (Some(1), told));
+        }
+    }
 }
 
 #[test]

@@ -25,10 +25,10 @@ enum Mark {
     Limit(Bound),
 }
 
-/// The marks of one panel and their names.
+/// The marks of one panel and their names, row by row; a place may stay empty.
 pub struct Legend {
     frames: usize,
-    entries: Vec<(Mark, String)>,
+    entries: Vec<Option<(Mark, String)>>,
 }
 
 impl Legend {
@@ -61,7 +61,7 @@ impl Legend {
         }
         Legend {
             frames: picture.frames(),
-            entries,
+            entries: entries.into_iter().map(Some).collect(),
         }
     }
 
@@ -69,13 +69,18 @@ impl Legend {
         let total = |list: &[u32]| grouped(sum(list).into());
         let harvest = format!("{} ({} Wh in all)", harvest_name(picture), total(picture.harvest));
         let budgets = format!("{} ({} Wh in all)", budget_name(picture), total(picture.budgets));
-        let mut entries = vec![(Mark::Harvest, harvest), (Mark::Budget, budgets)];
+        let limit = |bound: Bound| Some((Mark::Limit(bound), limit_name(picture, scale, bound)?));
+        let limits: Vec<_> = Bound::ALL.into_iter().filter_map(limit).collect();
+        let mut entries = vec![Some((Mark::Harvest, harvest)), Some((Mark::Budget, budgets))];
         if picture.is_losing() {
             let lost = format!("of it lost to a full battery ({} Wh in all)", total(picture.losses));
-            entries.push((Mark::Lost, lost));
+            entries.push(Some((Mark::Lost, lost)));
+            // Least and most stay in one row.
+            if limits.len() == COLUMNS {
+                entries.push(None);
+            }
         }
-        let bounds = Bound::ALL.into_iter();
-        entries.extend(bounds.filter_map(|bound| Some((Mark::Limit(bound), limit_name(picture, scale, bound)?))));
+        entries.extend(limits.into_iter().map(Some));
         Legend {
             frames: picture.frames(),
             entries,
@@ -89,7 +94,8 @@ impl Legend {
     pub fn draw(&self, area: &Page<'_>) -> Drawn {
         let column_width = area.dim_in_pixel().0 as i32 / COLUMNS as i32;
         let style = text_style(LETTER).pos(Pos::new(HPos::Left, VPos::Center));
-        for (place, (mark, name)) in self.entries.iter().enumerate() {
+        let entries = self.entries.iter().enumerate();
+        for (place, (mark, name)) in entries.filter_map(|(place, entry)| Some((place, entry.as_ref()?))) {
             let left = (place % COLUMNS) as i32 * column_width;
             let middle = (place / COLUMNS) as i32 * ROW + ROW / 2;
             self.draw_symbol(area, mark, (left, middle))?;
@@ -119,7 +125,7 @@ impl Legend {
             Mark::Harvest => marks::harvest_bars(area, &block),
             Mark::Budget => marks::budget_steps(area, &steps, self.frames),
             Mark::Lost => marks::lost_part(area, (left, top), (right, bottom)),
-            Mark::Limit(bound) => marks::limit(area, *bound, &[(left, y), (right, y)], top..=bottom, self.frames),
+            Mark::Limit(bound) => marks::limit(area, *bound, [(left, y), (right, y)], top..=bottom, self.frames),
         }
     }
 }

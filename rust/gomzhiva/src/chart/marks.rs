@@ -22,6 +22,8 @@ const DASH: i32 = 75;
 const GAP: i32 = 50;
 const DIAMOND: i32 = 42;
 const BRACKET: i32 = 45;
+/// About how wide all frames are together.
+const PLOT_WIDTH: i32 = 5200;
 /// The most frames that are wide enough for a dot each.
 const MOST_DOTS: usize = 48;
 
@@ -113,22 +115,38 @@ pub fn budget_steps(page: &Page<'_>, points: &[Point], frames: usize) -> Drawn {
     page.draw(&PathElement::new(points, BLACK.stroke_width(line_width(frames))))
 }
 
-/// A bound along frames that have it: a bracket that is open towards what is allowed, but not beyond the edges of the plot.
-/// The budgets lie on it.
-pub fn limit(page: &Page<'_>, bound: Bound, points: &[Point], edges: RangeInclusive<i32>, frames: usize) -> Drawn {
-    let (colour, depth) = match bound {
-        Bound::Least => (LEAST, -BRACKET),
-        Bound::Most => (MOST, BRACKET),
+/// A bound along frames that have the same one: a bracket that is open towards what is allowed, though not beyond the edges
+/// of the plot; where it is too narrow for ends, its line alone. The line lies on the side of what is not allowed, so that
+/// the budgets, or a least and a most that are equal, do not hide it.
+pub fn limit(
+    page: &Page<'_>,
+    bound: Bound,
+    [(left, y), (right, _)]: [Point; 2],
+    edges: RangeInclusive<i32>,
+    frames: usize,
+) -> Drawn {
+    let (colour, up) = match bound {
+        Bound::Least => (LEAST, -1),
+        Bound::Most => (MOST, 1),
     };
-    let end = |&(x, y): &Point| (x, (y + depth).clamp(*edges.start(), *edges.end()));
-    let ends = |point: Option<&Point>| point.map(end).into_iter();
-    let bracket = ends(points.first())
-        .chain(points.iter().copied())
-        .chain(ends(points.last()));
-    page.draw(&PathElement::new(
-        bracket.collect::<Vec<_>>(),
-        colour.stroke_width(2 * line_width(frames)),
-    ))
+    let width = end_width(frames);
+    let (left, right) = (left + width / 4, right - width / 4);
+    let line = y - up * 2 * line_width(frames) as i32;
+    let end = (y + up * BRACKET).clamp(*edges.start(), *edges.end());
+    let mut corners = vec![(left, line), (right, line)];
+    if right - left >= 3 * width {
+        let (inner_left, inner_right) = (left + width, right - width);
+        corners.extend([(right, end), (inner_right, end), (inner_right, y)]);
+        corners.extend([(inner_left, y), (inner_left, end), (left, end)]);
+    } else {
+        corners.extend([(right, y), (left, y)]);
+    }
+    page.draw(&Polygon::new(corners, colour))
+}
+
+/// The ends of a bracket get thinner with the frames, as long as they can be seen.
+fn end_width(frames: usize) -> i32 {
+    (PLOT_WIDTH / 4 / frames.max(1) as i32).clamp(5, 20)
 }
 
 /// Lines get thinner as the frames get narrower.

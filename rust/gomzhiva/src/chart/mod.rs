@@ -190,12 +190,45 @@ mod tests {
         outlines(&svg.lines().filter(is_drawn).collect::<String>())
     }
 
+    /// A bracket: its sides, the height of its bound, and how far its line and its ends, if it has them, go from there, up
+    /// being positive.
+    #[derive(Debug)]
+    struct Bracket {
+        sides: (i32, i32),
+        level: i32,
+        line: i32,
+        ends: Option<i32>,
+        width: i32,
+    }
+
     /// The brackets of a bound, the legend's first.
-    fn brackets(svg: &str, bound: Bound) -> Vec<Vec<(i32, i32)>> {
-        match bound {
-            Bound::Least => coloured(svg, "#148C5A"),
-            Bound::Most => coloured(svg, "#286EC8"),
-        }
+    fn brackets(svg: &str, bound: Bound) -> Vec<Bracket> {
+        let colour = match bound {
+            Bound::Least => "#148C5A",
+            Bound::Most => "#286EC8",
+        };
+        let bracket = |corners: &Vec<(i32, i32)>| {
+            let (left, right) = (corners[0].0, corners[1].0);
+            let (level, end, width) = match corners.len() {
+                4 => (corners[2].1, None, 0),
+                _ => (corners[4].1, Some(corners[2].1), right - corners[3].0),
+            };
+            Bracket {
+                sides: (left, right),
+                level,
+                line: level - corners[0].1,
+                ends: end.map(|end| level - end),
+                width,
+            }
+        };
+        coloured(svg, colour).iter().map(bracket).collect()
+    }
+
+    /// The height at which a text stands.
+    fn row(svg: &str, text: &str) -> String {
+        let before = &svg[..svg.find(text).expect("the text")];
+        let height = before.rsplit(" y=\"").next().and_then(|rest| rest.split('"').next());
+        height.expect("its height").to_string()
     }
 
     /// Opposite corners of each striped part, the legend's first.
@@ -322,11 +355,11 @@ mod tests {
         assert!(!none.contains("lost"));
     }
 
-    /// Every so many frames have bounds, two neighbouring ones different ones, and a most may be 0.
+    /// Every so many frames have bounds, neighbouring ones the same or different ones, and a most may be 0.
     fn some_bounds(frames: usize) -> [Vec<u32>; 2] {
         let bounds = |list: [u32; 7]| list.into_iter().cycle().take(frames).collect();
         let none = NO_UPPER_END;
-        [bounds([0, 3, 5, 0, 0, 1, 0]), bounds([6, none, none, 0, 2, 9, none])]
+        [bounds([0, 3, 3, 5, 0, 1, 0]), bounds([6, 6, 6, 0, 2, 9, none])]
     }
 
     #[test]
@@ -348,19 +381,24 @@ mod tests {
             for (bound, list) in [(Bound::Least, least), (Bound::Most, most)] {
                 let mut drawn = vec![None; frames];
                 for bracket in brackets(&text, bound).iter().skip(1) {
-                    let (ends, levels) = ([bracket[0], *bracket.last().unwrap()], &bracket[1..bracket.len() - 1]);
-                    let open = |y: i32| match bound {
-                        Bound::Least => y - 45,
-                        Bound::Most => zero.min(y + 45),
+                    let (left, right) = bracket.sides;
+                    let covered = |step: &[(i32, i32)]| step[0].0 < right && left < step[1].0;
+                    let first = steps.chunks(2).position(covered).expect("a frame");
+                    let count = steps.chunks(2).filter(|step| covered(step)).count();
+                    let edges = (steps[2 * first].0, steps[2 * (first + count) - 1].0);
+                    let gaps = (left - edges.0, edges.1 - right);
+                    assert!(gaps.0 == gaps.1 && (1..=5).contains(&gaps.0), "{gaps:?}");
+                    drawn[first..first + count].fill(Some(bracket.level));
+                    let next = list.get(first + count);
+                    assert!(list[first..first + count].iter().all(|listed| *listed == list[first]));
+                    assert_ne!(next, Some(&list[first]), "equal bounds share a bracket");
+                    let (up, ends) = match bound {
+                        Bound::Least => (1, 45),
+                        Bound::Most => (-1, -45.min(zero - bracket.level)),
                     };
-                    let outer = [levels[0], *levels.last().unwrap()];
-                    assert_eq!(ends, outer.map(|(x, y)| (x, open(y))), "{bound:?}");
-                    for level in levels.chunks(2) {
-                        let frame = steps.chunks(2).position(|step| step[0].0 == level[0].0);
-                        let frame = frame.expect("a frame that begins here");
-                        assert_eq!((level[1].0, level[0].1), (steps[2 * frame + 1].0, level[1].1));
-                        drawn[frame] = Some(level[0].1);
-                    }
+                    assert!(bracket.line * up < 0, "{bound:?}: the line is beyond what is allowed");
+                    let has_ends = frames <= 96 || count > 2;
+                    assert_eq!(bracket.ends, has_ends.then_some(ends), "{bound:?}");
                 }
                 for (frame, (drawn, listed)) in drawn.into_iter().zip(list).enumerate() {
                     let level = |given: u32| zero - (zero - seven) * given as i32 / 7;
@@ -374,16 +412,83 @@ mod tests {
     }
 
     #[test]
-    fn neighbouring_frames_share_a_bracket() {
+    fn equal_bounds_in_a_row_share_a_bracket_and_others_do_not() {
         let text = svg(&Picture {
-            least: &[1, 0, 2, 2, 3, 0],
+            least: &[1, 20, 2, 2, 3, 0],
+            budgets: &[20; 6],
             ..PLAN
         });
-        let lengths: Vec<usize> = brackets(&text, Bound::Least).iter().map(Vec::len).collect();
-        assert_eq!(lengths, [4, 4, 8], "the legend's, one frame, three frames");
+        let widths: Vec<i32> = brackets(&text, Bound::Least)
+            .iter()
+            .skip(1)
+            .map(|bracket| bracket.sides.1 - bracket.sides.0)
+            .collect();
+        assert_eq!(widths.len(), 4);
+        assert!(widths[2] > 2 * widths[0] && (widths[0] - widths[3]).abs() <= 1);
         assert!(
             text.rfind("#EEA620") < text.rfind("#148C5A") && text.rfind("#148C5A") < text.rfind("<polyline"),
             "over the bars, under the budgets"
+        );
+    }
+
+    #[test]
+    fn a_least_that_is_the_most_shows_beside_it_and_the_budget() {
+        for frames in [6, MAX_FRAMES] {
+            let text = svg(&Picture {
+                harvest: &vec![7; frames],
+                least: &vec![3; frames],
+                most: &vec![3; frames],
+                budgets: &vec![3; frames],
+                charges: &vec![5; frames],
+                losses: &vec![0; frames],
+                ..PLAN
+            });
+            let [least, most] = Bound::ALL.map(|bound| brackets(&text, bound).pop().expect("a bracket"));
+            let half_a_budget = 7;
+            assert!(
+                least.line < -half_a_budget && half_a_budget < most.line,
+                "{least:?} {most:?}"
+            );
+            assert_eq!(least.level, most.level);
+        }
+    }
+
+    #[test]
+    fn brackets_stay_open_however_narrow_their_frames() {
+        for frames in [1, 6, 96, 200, 350, MAX_FRAMES] {
+            let [least, most] = some_bounds(frames);
+            let text = svg(&Picture {
+                harvest: &vec![7; frames],
+                least: &least,
+                most: &most,
+                budgets: &vec![5; frames],
+                charges: &vec![9; frames],
+                losses: &vec![0; frames],
+                ..PLAN
+            });
+            for bracket in Bound::ALL.iter().flat_map(|&bound| brackets(&text, bound)) {
+                let open = bracket.sides.1 - bracket.sides.0 - 2 * bracket.width;
+                assert!(open >= bracket.width.max(4), "{frames} frames: {bracket:?}");
+            }
+        }
+    }
+
+    #[test]
+    fn least_and_most_are_named_in_one_row() {
+        let [least, most] = some_bounds(6);
+        let lost = "of it lost to";
+        let text = svg(&Picture {
+            least: &least,
+            most: &most,
+            ..PLAN
+        });
+        assert_eq!(row(&text, "least budget"), row(&text, "most budget"));
+        assert_ne!(row(&text, lost), row(&text, "least budget"));
+        let text = svg(&Picture { most: &most, ..PLAN });
+        assert_eq!(
+            row(&text, lost),
+            row(&text, "most budget"),
+            "one alone stands beside it"
         );
     }
 
@@ -394,9 +499,9 @@ mod tests {
             (
                 &least[..],
                 &most[..],
-                ["least budget (in 3 frames)", "most budget (in 4 frames)"],
+                ["least budget (in 4 frames)", "most budget (in 6 frames)"],
             ),
-            (&least, PLAN.most, ["least budget (in 3 frames)", ""]),
+            (&least, PLAN.most, ["least budget (in 4 frames)", ""]),
             (
                 PLAN.least,
                 &[1, NO_UPPER_END, 1, 1, 1, 1],
@@ -418,21 +523,27 @@ mod tests {
     #[test]
     fn bounds_far_above_are_only_named() {
         let bars = |text: &str| coloured(text, "#EEA620").pop();
-        let none = NO_UPPER_END;
-        let text = svg(&Picture {
-            most: &[29, none, none, 300, none, 400],
-            ..PLAN
-        });
-        assert!(text.contains("\nmost budget (in 3 frames, above the picture in 3)\n"));
-        let named = |most: &[u32; 6]| svg(&Picture { most, ..PLAN });
-        assert_eq!(bars(&text), bars(&named(&[1, none, none, 1, none, 1])));
-        assert_eq!(brackets(&text, Bound::Most).len(), 1, "the legend's");
-        let near = named(&[28, none, none, none, none, 29]);
-        assert!(
-            near.contains("\nmost budget (in 2 frames)\n"),
-            "29 has room where 28 is taken in"
-        );
-        assert_eq!(brackets(&near, Bound::Most).len(), 3);
+        for bound in Bound::ALL {
+            let drawn = |first: u32, last: u32| {
+                let none = bound.absent();
+                let list = [first, none, none, none, none, last];
+                let (least, most) = match bound {
+                    Bound::Least => (&list, &[NO_UPPER_END; 6]),
+                    Bound::Most => (&[0; 6], &list),
+                };
+                svg(&Picture { least, most, ..PLAN })
+            };
+            let (name, far) = (bound.name(), drawn(11, 400));
+            assert!(far.contains(&format!("\n{name} budget (in 2 frames, above the picture in 2)\n")));
+            assert_eq!(bars(&far), bars(&drawn(1, 1)));
+            assert_eq!(brackets(&far, bound).len(), 1, "the legend's");
+            let near = drawn(10, 400);
+            assert!(
+                near.contains(&format!("\n{name} budget (in 2 frames, above the picture in 1)\n")),
+                "10 is near 7"
+            );
+            assert_eq!(brackets(&near, bound).len(), 2);
+        }
     }
 
     #[test]

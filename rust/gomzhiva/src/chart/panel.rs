@@ -93,7 +93,7 @@ impl<'p, 'a> Panel<'p, 'a> {
         let limits: Vec<_> = limits.map(|limit| limit.filter(|&limit| self.reaches(limit))).collect();
         let frames = self.picture.frames();
         let mut runs = runs(&limits).into_iter();
-        runs.try_for_each(|run| marks::limit(self.page, bound, &self.points(&run), top..=bottom, frames))
+        runs.try_for_each(|run| marks::limit(self.page, bound, run.map(|spot| self.point(spot)), top..=bottom, frames))
     }
 
     /// The charge at the start and at the end of each frame.
@@ -238,15 +238,17 @@ fn step(frame: usize, watt_hours: f64) -> [Spot; 2] {
     [(frame as f64 - 0.5, watt_hours), (frame as f64 + 0.5, watt_hours)]
 }
 
-/// The ends of the steps of neighbouring frames that have a limit, one list for each such run of frames.
-fn runs(limits: &[Option<f64>]) -> Vec<Vec<Spot>> {
-    let mut runs = vec![Vec::new()];
-    for (frame, limit) in (1..).zip(limits) {
-        match limit {
-            Some(limit) => runs.last_mut().expect("a run").extend(step(frame, *limit)),
-            None => runs.push(Vec::new()),
+/// The ends of the line of each run of neighbouring frames that have the same limit.
+fn runs(limits: &[Option<f64>]) -> Vec<[Spot; 2]> {
+    let limited = (1..)
+        .zip(limits)
+        .filter_map(|(frame, &limit)| Some(step(frame, limit?)));
+    let mut runs: Vec<[Spot; 2]> = Vec::new();
+    for [left, right] in limited {
+        match runs.last_mut() {
+            Some([_, end]) if *end == left => *end = right,
+            _ => runs.push([left, right]),
         }
     }
-    runs.retain(|run| !run.is_empty());
     runs
 }

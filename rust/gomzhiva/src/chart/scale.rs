@@ -14,8 +14,10 @@ const HALF_A_DAY: usize = 48;
 /// The characters for which the frame axis has room, two of them blank after each number.
 const FRAME_AXIS_CHARACTERS: usize = 110;
 const MOST_WATT_HOUR_STEPS: f64 = 8.0;
-/// A line joins the charges or the energies where it makes the picture at most so many times as high.
+/// A line joins the charges where it makes the picture at most so many times as high.
 const REACH: f64 = 4.0;
+/// A bound joins the energies where it makes the picture at most so many times as high.
+const BOUND_REACH: f64 = 1.5;
 
 /// What an axis spans and where it has numbers.
 #[derive(Clone)]
@@ -41,7 +43,7 @@ impl Scale {
         let high = charges().fold(f64::from(picture.start), f64::max);
         let needed = picture.needed.unwrap_or(0) as f64;
         let lines = [f64::from(picture.capacity), f64::from(picture.end), needed];
-        Scale::of_watt_hours(low, with_near(&lines, low, high))
+        Scale::of_watt_hours(low, with_near(&lines, low, high, REACH))
     }
 
     /// Takes in every harvest and every budget, and the bounds that do not squash these.
@@ -50,7 +52,7 @@ impl Scale {
         let high = energies.max().map_or(0.0, |&most| f64::from(most));
         let bounds = Bound::ALL.into_iter().flat_map(|bound| picture.limits(bound));
         let lines: Vec<f64> = bounds.flatten().collect();
-        Scale::of_watt_hours(0.0, with_near(&lines, 0.0, high))
+        Scale::of_watt_hours(0.0, with_near(&lines, 0.0, high, BOUND_REACH))
     }
 
     /// From `low`, at most 0, to `high`, at least 0, with some room beyond.
@@ -100,12 +102,12 @@ impl Ranged for Scale {
     }
 }
 
-/// The top of a picture from `low` to `high` with the lines that make it at most `REACH` times as high.
-fn with_near(lines: &[f64], low: f64, high: f64) -> f64 {
+/// The top of a picture from `low` to `high` with the lines that make it at most `reach` times as high.
+fn with_near(lines: &[f64], low: f64, high: f64, reach: f64) -> f64 {
     let lines = || lines.iter().copied();
     let lowest = lines().filter(|&line| line > 0.0).fold(f64::MAX, f64::min);
     let height = if high > low { high - low } else { lowest };
-    let near = lines().filter(|&line| line <= low + REACH * height);
+    let near = lines().filter(|&line| line <= low + reach * height);
     near.fold(high, f64::max)
 }
 

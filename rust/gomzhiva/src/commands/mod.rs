@@ -9,7 +9,7 @@ use crate::cli::{Command, OutputArguments};
 use crate::failure::Failure;
 use crate::files::{print, Place};
 use crate::journal::is_no_journal;
-use crate::request::{read_budgets, Request, RequestArguments};
+use crate::request::{read_budgets, RequestArguments};
 use energy::{Energy, Linked};
 
 pub fn run(command: &Command) -> Result<(), Failure> {
@@ -26,9 +26,9 @@ pub fn run(command: &Command) -> Result<(), Failure> {
 }
 
 fn needed(request: &RequestArguments) -> Result<(), Failure> {
-    let Request { figures, frames } = request.read()?.without_capacity()?;
-    let needed = Linked.needed(figures, frames.lent());
-    let needed = needed.map_err(|refusal| frames.refused(refusal))?;
+    let request = request.read()?.without_capacity()?;
+    let needed = Linked.needed(request.figures, request.frames.lent());
+    let needed = needed.map_err(|refusal| request.refused(refusal))?;
     print(&format!("needed capacity {needed} Wh\n"))
 }
 

@@ -17,7 +17,7 @@ pub fn run(arguments: &PlanArguments) -> Result<(), Failure> {
     let request = draft.request()?;
     let mut budgets = vec![0; request.frames.harvest.len()];
     let planned = Linked.plan(request.figures, request.frames.lent(), &mut budgets);
-    planned.map_err(|refusal| request.frames.refused(refusal))?;
+    planned.map_err(|refusal| request.refused(refusal))?;
     let plan = Budgets::trace(&request, budgets)?;
     let shown = Shown {
         title: &format!("Plan of {}", arguments.request.request.input_name()),
@@ -30,16 +30,17 @@ pub fn run(arguments: &PlanArguments) -> Result<(), Failure> {
 
 /// Prints document 01's listing, from the proved entry.
 fn listing(mut draft: Draft) -> Result<(), Failure> {
-    let frames = draft.frames.clone();
-    let file = match draft.word_file.take() {
+    let file = draft.word_file.take();
+    let request = draft.request()?;
+    let file = match file {
         Some(file) => file,
-        None => draft.request()?.word_file()?,
+        None => request.word_file()?,
     };
     let mut text = vec![0; LISTING_BYTES];
     let length = Linked.listing(&file, &mut text);
     let text = String::from_utf8_lossy(&text[..length]);
     match refusal_in(&text) {
-        Some(refusal) => Err(frames.refused(refusal)),
+        Some(refusal) => Err(request.refused(refusal)),
         None => print(&text),
     }
 }

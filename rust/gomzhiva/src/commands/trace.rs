@@ -27,15 +27,10 @@ pub fn run(arguments: &TraceArguments) -> Result<(), Failure> {
     let is_feasible = traced.verdict == Verdict::Feasible;
     let outside = outside(&traced);
     let title = format!(
-        "{} traced with {}{}{}",
+        "{} traced with {}{}",
         arguments.budgets.input_name(),
         arguments.request.request.input_name(),
-        if is_feasible { "" } else { ": not feasible" },
-        if outside.is_none() {
-            ""
-        } else {
-            ": not within the bounds"
-        },
+        amiss(is_feasible, outside.is_none()),
     );
     let verdict = verdict(&traced, outside.is_none());
     let warnings = [outside.clone(), (!is_feasible).then_some(verdict.clone())];
@@ -51,6 +46,16 @@ pub fn run(arguments: &TraceArguments) -> Result<(), Failure> {
         inputs: &[&arguments.request.request, &arguments.budgets],
     };
     traced.show(&arguments.report, &shown)
+}
+
+/// What is amiss with the budgets, for the title.
+fn amiss(is_feasible: bool, is_within: bool) -> &'static str {
+    match (is_feasible, is_within) {
+        (true, true) => "",
+        (true, false) => ": not within the bounds",
+        (false, true) => ": not feasible",
+        (false, false) => ": not feasible, and not within the bounds",
+    }
 }
 
 /// That every budget is within its bounds, in words, where the request has any.

@@ -52,7 +52,7 @@ impl Journal {
     /// Starts a shift in a new journal.
     pub fn start(place: &Place, request: Request) -> Result<Running, Failure> {
         let path = file_of(place)?;
-        let running = Running::start(request.clone()).map_err(|refusal| request.frames.refused(refusal))?;
+        let running = Running::start(request.clone()).map_err(|refusal| request.refused(refusal))?;
         let (line, _) = Seal::default().close(&Call::Start(request).to_string());
         files::create(path, line.as_bytes()).map_err(|error| Failure::system(path.display(), &error))?;
         Ok(running)
@@ -196,7 +196,7 @@ fn first_line(path: &Path, line: &[u8]) -> Result<(Running, Seal), Failure> {
     match opened.and_then(|(text, seal)| Some((Call::parse(text)?, seal))) {
         Some((Call::Start(request), seal)) => {
             let why = format!("{} starts such a shift, and stays as it is", path.display());
-            let running = Running::start(request).map_err(|refusal| Failure::from(refusal).with(&why))?;
+            let running = Running::start(request.clone()).map_err(|refusal| request.refused(refusal).with(&why))?;
             Ok((running, seal))
         }
         _ => Err(damaged(path, 1, "the start of a shift, as a journal begins,", line)),

@@ -1,7 +1,6 @@
 //! What a request says of its frames: the harvest of each, and the bounds of its budget.
 
-use crate::failure::Failure;
-use energy::{Frames, Refusal, NO_UPPER_END};
+use energy::{Frames, NO_UPPER_END};
 
 /// A bound that the budget of a frame may have.
 #[derive(Clone, Copy, Debug, PartialEq, Eq)]
@@ -96,25 +95,6 @@ impl FrameLists {
     pub fn is_bounded(&self) -> bool {
         !self.bounds().is_empty()
     }
-
-    /// The failure of a call that was lent these lists; where bounds are refused, it says which they are.
-    pub fn refused(&self, refusal: Refusal) -> Failure {
-        let failure = Failure::from(refusal);
-        match refusal {
-            Refusal::BadBounds { frame } => failure.with(&self.bounds_of(frame as usize - 1)),
-            _ => failure,
-        }
-    }
-
-    /// The bounds that a frame has, in words.
-    fn bounds_of(&self, frame: usize) -> String {
-        let words = |bound: Bound| {
-            let given = bound.given(self.list(bound)[frame])?;
-            Some(format!("its {} is {given} Wh", bound.name()))
-        };
-        let words: Vec<String> = Bound::ALL.into_iter().filter_map(words).collect();
-        words.join(" and ")
-    }
 }
 
 #[cfg(test)]
@@ -151,11 +131,6 @@ mod tests {
         assert_eq!(lists(&[0, 3], &[none, none]).bounds(), [Bound::Least]);
         assert_eq!(lists(&[0, 0], &[0, none]).bounds(), [Bound::Most]);
         assert_eq!(lists(&[0, 3], &[0, none]).bounds(), Bound::ALL);
-        assert_eq!(lists(&[0, 3], &[0, none]).bounds_of(1), "its least is 3 Wh");
-        assert_eq!(
-            lists(&[2, 3], &[0, none]).bounds_of(0),
-            "its least is 2 Wh and its most is 0 Wh"
-        );
         assert_eq!(
             lists(&[0, 3], &[0, none]).rest(1),
             FrameLists {

@@ -3,6 +3,7 @@
 mod cells;
 mod fault;
 mod frames;
+mod refused;
 mod sheet;
 
 pub use fault::{quoted, Fault};
@@ -11,7 +12,7 @@ pub use frames::{Bound, FrameLists, NO_BOUND};
 use crate::failure::Failure;
 use crate::files::{Place, MOST_BYTES};
 use clap::Args;
-use energy::{Energy, Figures, Linked, MAX_FILE_BYTES, MAX_FRAMES};
+use energy::{Energy, Figures, Linked, MAX_CAPACITY, MAX_FILE_BYTES, MAX_FRAMES};
 use sheet::{Sheet, BUDGET, CAPACITY, END, FIGURES, HARVEST, START};
 
 /// Where a request stands, and figures in place of its own.
@@ -46,7 +47,7 @@ pub struct Request {
 #[derive(Debug)]
 pub struct Draft {
     figures: [Option<u32>; FIGURES.len()],
-    pub frames: FrameLists,
+    frames: FrameLists,
     /// The word file itself, where the request is just what it holds.
     pub word_file: Option<Vec<u8>>,
     name: String,
@@ -91,10 +92,10 @@ impl Draft {
         Ok((which.map(|which| self.figures[which].unwrap_or_default()), self.frames))
     }
 
-    /// What the needed capacity depends on: the request with any capacity, here 0.
+    /// What the needed capacity depends on: the request with any capacity, here the largest.
     pub fn without_capacity(self) -> Result<Request, Failure> {
         let ([start, end], frames) = self.take([START, END])?;
-        let capacity = 0;
+        let capacity = MAX_CAPACITY;
         let figures = Figures { capacity, start, end };
         Ok(Request { figures, frames })
     }
@@ -118,7 +119,7 @@ impl Request {
     pub fn word_file(&self) -> Result<Vec<u8>, Failure> {
         let mut file = vec![0; MAX_FILE_BYTES];
         let length = Linked.write(self.figures, self.frames.lent(), &mut file);
-        file.truncate(length.map_err(|refusal| self.frames.refused(refusal))?);
+        file.truncate(length.map_err(|refusal| self.refused(refusal))?);
         Ok(file)
     }
 

@@ -213,7 +213,13 @@ fn sure(doubtful: Option<Row<'_>>) -> Result<(), Fault> {
 fn put_frame(sheet: &mut Sheet, table: &Table, row: &Row<'_>) -> Result<(), Fault> {
     let columns = &table.columns;
     if table.separator == Separator::Blanks && row.cells.len() < columns.len() {
-        return Err(unlike(row, row.cells.len(), "a cell for each column"));
+        let is_bound = |column: &Kind| matches!(column, Kind::Bound(_));
+        let none = if columns.iter().any(is_bound) {
+            format!(" ('{NO_BOUND}' for none)")
+        } else {
+            String::new()
+        };
+        return Err(unlike(row, row.cells.len(), &format!("a cell for each column{none}")));
     }
     for (i, column) in columns.iter().enumerate() {
         let (list, value) = match column {
@@ -381,8 +387,9 @@ mod tests {
             fault("least,harvest\n3\n"),
             format!("2:2: {number} the end of the line")
         );
-        let each = "a cell for each column is expected, found the end of the line";
+        let each = "a cell for each column ('-' for none) is expected, found the end of the line";
         assert_eq!(fault("harvest least most\n6 3\n"), format!("2:4: {each}"));
+        assert_eq!(fault("most harvest\n6\n"), format!("2:2: {each}"));
         assert_eq!(
             fault("least,most\n3,4\n"),
             "1:1: a table with the column 'harvest' is expected, found 'least'"
