@@ -1,5 +1,5 @@
 -- Refusal 10 of two lists one frame at a time, and what its absence says of every least and most.
-use mathlib.Core.Path.{_≡_, refl, sym, ap, _∙_, subst}
+use mathlib.Core.Path.{_≡_, refl, sym, ap, _∙_}
 use mathlib.Core.Bool.{Bool, true, false, false≢true, not, _&&_, _||_}
 use mathlib.Core.List.{List, [], _∷_}
 use Prim.Native.Nat.{ℕ, zero, suc, _+_, _≤_, _<_}
@@ -129,11 +129,3 @@ bounds-each k (w ∷ ws) e i = go (badBounds w) refl e (bounds-each (suc k) ws) 
     go true q f ih j = absurd (false≢true f)
     go false q f ih zero = bounds-fit (w .least) (w .most) q
     go false q f ih (suc j) = ih f j
-
--- the same of two lists
-pub bounds-small :
-    (k : ℕ) (ls ms : List ℕ) → length ls ≡ length ms → isNone (boundsRefused k (boundsOf ls ms)) ≡ true → (i : ℕ) →
-    i < length ls → BoundsFit (getD ls i 0) (getD ms i 0)
-bounds-small k ls ms n e i l =
-    subst (λ (w : Bounds). BoundsFit (w .least) (w .most)) (bounds-nth i ls ms l n)
-    (bounds-each k (boundsOf ls ms) e i)
