@@ -10,109 +10,137 @@
 // Most knots are written and met near an end of the curve. Where many lie between, a new one has many others moved;
 // there is an allowance for that, and where it is used up, the guess is given up.
 use super::curve::Curve;
+use super::knots::Span;
+use super::knots::cleared;
 use super::pass::pass;
+use super::pass::start_with;
 use certifier::At;
 use certifier::Rule;
 use certifier::frame_at;
-use certifier::gap;
 use numbers::TOP;
-use numbers::at;
-use numbers::greater;
-use numbers::less;
 use numbers::lesser;
+use numbers::low_bits;
+use numbers::minus;
 use numbers::plus;
-use numbers::put;
 use numbers::times;
+use numbers::wide;
 ghost use mathlib.Core.Path.{_≡_};
-ghost use Prim.Native.Nat.{_<_};
+ghost use Prim.Native.Nat.{_≤_, _<_};
 ghost use lib.ListN.{length};
 ghost use Rattle.certifier.specs.Says.{Readable};
 
 // How many knots may be moved for each frame.
-const MOVES: u64 = 48;
+const MOVES: u64 = 128;
 
-// The frame with no bound above the roof: more than all that there is is never drawn.
-fn frame_below(rule: Rule, harvest: &[u32], least: &[u32], most: &[u32], k: usize, roof: u64) -> At
+// A level above all that there is to draw.
+fn roof_of(rule: Rule) -> u64 {
+    plus(rule.energy, 1)
+}
+
+// A frame whose most is above every level where it has no upper end.
+fn frame_of(rule: Rule, harvest: &[u32], least: &[u32], most: &[u32], k: usize) -> At
     requires { ⌜ Readable rule (now harvest) (now least) (now most) × (k < length (now harvest)) ⌝ }
 {
     let mut f = frame_at(rule, harvest, least, most, k);
-    if rule.energy <= f.most {
-        f.most = roof;
-    }
-    f.least = lesser(f.least, f.most);
+    f.most = wide(most[k]);
     f
-}
-
-// The curve behind the last frame: the end charge at every level.
-fn first_curve(rule: Rule, count: usize, middle: usize) -> Curve {
-    Curve {
-        from: 0,
-        to: 0,
-        full: rule.end,
-        low: rule.end,
-        low_step: 0,
-        high: 0,
-        high_step: 0,
-        first: middle,
-        end: middle,
-        moves: times(MOVES, plus(count as u64, 1)),
-    }
 }
 
 // The curve that is 0 at every level.
 fn nothing(curve: Curve, roof: u64) -> Curve {
     let mut c = curve;
     c.from = plus(roof, 1);
-    c.to = c.from;
-    c.low = 0;
-    c.high = 0;
+    c.last = roof;
+    c.span = cleared(c.span);
     c
 }
 
-// The curve of a frame that takes nothing over and leaves nothing: one level, where it draws all that it has.
-fn lone(curve: Curve, f: At, has: u64, roof: u64) -> Curve {
-    let mut c = curve;
-    let level = less(has, f.drain);
-    c.from = plus(level, 1);
-    if f.most <= level {
-        c.from = plus(roof, 1);
+// The curve behind the last frame: the end charge at every level. Its knots are to stand around a middle.
+fn first_curve(end: u64, full: u64, roof: u64, middle: usize) -> Curve {
+    let c = Curve {
+        from: 1,
+        last: roof,
+        full: full,
+        low: end,
+        low_step: 0,
+        high: end,
+        high_step: 0,
+        span: Span {
+            first: middle,
+            end: middle,
+            moves: 0,
+        },
+    };
+    if end == 0 {
+        return nothing(c, roof);
     }
-    c.to = c.from;
     c
-}
-
-// What a frame has for sure: the first one with the start charge; one that takes nothing over has all that it holds.
-fn has_at(f: At, k: usize, start: u64) -> u64 {
-    if k == 0 {
-        return lesser(f.ceiling, plus(start, f.inflow));
-    }
-    if gap(f) == 0 {
-        return f.ceiling;
-    }
-    f.inflow
-}
-
-// The curve before a frame that has so much, from that behind it.
-fn next(knots: &mut [u64], behind: Curve, f: At, has: u64, roof: u64) -> Curve
-    ensures { λ _. ⌜ length (now (knots .exit)) ≡ length (now (knots .entry)) ⌝ }
-{
-    let mut c = behind;
-    if c.full == 0 {
-        if gap(f) == 0 {
-            return lone(c, f, has, roof);
-        }
-        c = nothing(c, roof);
-    }
-    pass(knots, c, f, has, roof)
 }
 
 // Writes the last level at which the reserve before a frame is 0, and the last at which it is not full.
-fn note(lows: &mut [u32], highs: &mut [u32], k: usize, c: Curve)
+fn note(lows: &mut [u32], highs: &mut [u32], k: usize, low: u64, high: u64)
+    requires { ⌜ (k < length (now lows)) × (k < length (now highs)) ⌝ }
     ensures { λ _. ⌜ (length (now (lows .exit)) ≡ length (now (lows .entry))) ×
         (length (now (highs .exit)) ≡ length (now (highs .entry))) ⌝ }
 {
-    put(lows, k, less(c.from, 1));
-    put(highs, k, less(c.to, 1));
+    lows[k] = low_bits(low) as u32;
+    highs[k] = low_bits(high) as u32;
+}
+
+// Writes both levels before a frame that takes something over.
+fn note_open(lows: &mut [u32], highs: &mut [u32], k: usize, curve: Curve, f: At) -> Curve
+    requires { ⌜ (k < length (now lows)) × (k < length (now highs)) ⌝ }
+    ensures { λ _. ⌜ (length (now (lows .exit)) ≡ length (now (lows .entry))) ×
+        (length (now (highs .exit)) ≡ length (now (highs .entry))) ⌝ }
+{
+    let mut c = curve;
+    c.full = minus(f.ceiling, f.inflow);
+    note(lows, highs, k, minus(c.from, 1), c.last);
+    c
+}
+
+// Writes the level of a frame that takes nothing over: nothing is reserved before it.
+fn note_shut(lows: &mut [u32], highs: &mut [u32], k: usize, c: Curve, roof: u64) -> Curve
+    requires { ⌜ (k < length (now lows)) × (k < length (now highs)) ⌝ }
+    ensures { λ _. ⌜ (length (now (lows .exit)) ≡ length (now (lows .entry))) ×
+        (length (now (highs .exit)) ≡ length (now (highs .entry))) ⌝ }
+{
+    note(lows, highs, k, minus(c.from, 1), minus(c.from, 1));
+    nothing(c, roof)
+}
+
+// The curve before a frame, from that behind it; writes both levels.
+fn next(
+    lows: &mut [u32],
+    highs: &mut [u32],
+    knots: &mut [u64],
+    k: usize,
+    behind: Curve,
+    f: At,
+    roof: u64,
+) -> Curve
+    requires { ⌜ (k < length (now lows)) × (k < length (now highs)) ⌝ }
+    ensures { λ _. ⌜ (length (now (lows .exit)) ≡ length (now (lows .entry))) ×
+        (length (now (highs .exit)) ≡ length (now (highs .entry))) ×
+        (length (now (knots .exit)) ≡ length (now (knots .entry))) ⌝ }
+{
+    let c = pass(knots, behind, f, lesser(f.ceiling, f.inflow), roof);
+    if f.inflow < f.ceiling {
+        return note_open(lows, highs, k, c, f);
+    }
+    note_shut(lows, highs, k, c, roof)
+}
+
+// Writes the level of the first frame, which has the start charge besides if it takes that over.
+fn note_first(lows: &mut [u32], highs: &mut [u32], knots: &[u64], c: Curve, f: At, start: u64)
+    requires { ⌜ (0 < length (now lows)) × (0 < length (now highs)) ⌝ }
+    ensures { λ _. ⌜ (length (now (lows .exit)) ≡ length (now (lows .entry))) ×
+        (length (now (highs .exit)) ≡ length (now (highs .entry))) ⌝ }
+{
+    if f.inflow < f.ceiling {
+        let level = minus(start_with(knots, c, start).from, 1);
+        note(lows, highs, 0, level, level);
+    }
 }
 
 // Draws the curve from behind, and writes both levels before each frame. Says whether the allowance sufficed.
@@ -126,41 +154,50 @@ fn draw_curve(
     highs: &mut [u32],
     knots: &mut [u64],
 ) -> bool
-    requires { ⌜ Readable rule (now harvest) (now least) (now most) ⌝ }
+    requires { ⌜ Readable rule (now harvest) (now least) (now most) × (0 < length (now harvest)) ×
+        (length (now harvest) ≤ length (now lows)) × (length (now harvest) ≤ length (now highs)) ⌝ }
     ensures { λ _. ⌜ (length (now (lows .exit)) ≡ length (now (lows .entry))) ×
         (length (now (highs .exit)) ≡ length (now (highs .entry))) ×
         (length (now (knots .exit)) ≡ length (now (knots .entry))) ⌝ }
 {
-    let roof = plus(rule.energy, 1);
-    let mut c = first_curve(rule, harvest.len(), knots.len() / 2);
+    let roof = roof_of(rule);
     let mut k = harvest.len();
+    let mut f = frame_of(rule, harvest, least, most, k - 1);
+    let mut c = first_curve(rule.end, minus(f.ceiling, f.inflow), roof, knots.len() / 2);
     while 0 < k {
         k -= 1;
-        let f = frame_below(rule, harvest, least, most, k, roof);
-        c = next(knots, c, f, has_at(f, k, start), roof);
-        note(lows, highs, k, c);
-        if c.moves == 0 {
-            return false;
-        }
+        f = frame_of(rule, harvest, least, most, k);
+        c = next(lows, highs, knots, k, c, f, roof);
     }
-    true
+    note_first(lows, highs, knots, c, f, start);
+    c.span.moves < times(MOVES, plus(harvest.len() as u64, 1))
+}
+
+// The nearest level to one before it between a frame's two.
+fn nearest(low: u32, high: u32, before: u32) -> u32 {
+    let below = if high < before { high } else { before };
+    if below < low { low } else { below }
 }
 
 // A level at the roof is the top: whoever draws the most there refuses nothing more.
-fn lifted(level: u64, roof: u64) -> u64 {
-    if roof <= level { TOP } else { level }
+fn lifted(level: u32, roof: u32) -> u32 {
+    if roof <= level {
+        low_bits(TOP) as u32
+    } else {
+        level
+    }
 }
 
 // Writes the levels over the lowest ones: each is the level before it, or the nearest between its two.
-fn choose(roof: u64, lows: &mut [u32], highs: &[u32])
+fn choose(roof: u32, count: usize, lows: &mut [u32], highs: &[u32])
+    requires { ⌜ (count ≤ length (now lows)) × (count ≤ length (now highs)) ⌝ }
     ensures { λ _. ⌜ length (now (lows .exit)) ≡ length (now (lows .entry)) ⌝ }
 {
-    let count = lows.len();
     let mut level = 0;
     let mut k = 0;
     while k < count {
-        level = greater(at(lows, k), lesser(at(highs, k), level));
-        put(lows, k, lifted(level, roof));
+        level = nearest(lows[k], highs[k], level);
+        lows[k] = lifted(level, roof);
         k += 1;
     }
 }
@@ -182,8 +219,19 @@ pub fn curve_levels(
         (length (now (highs .exit)) ≡ length (now (highs .entry))) ×
         (length (now (knots .exit)) ≡ length (now (knots .entry))) ⌝ }
 {
+    let count = harvest.len();
+    if count == 0 {
+        return false;
+    }
+    if levels.len() < count {
+        return false;
+    }
+    if highs.len() < count {
+        return false;
+    }
     if draw_curve(rule, harvest, least, most, start, levels, highs, knots) {
-        choose(plus(rule.energy, 1), levels, highs);
+        let roof = low_bits(lesser(roof_of(rule), TOP)) as u32;
+        choose(roof, count, levels, highs);
         return true;
     }
     false

@@ -1,5 +1,6 @@
 // The curve from behind a frame to before it.
 use super::curve::Curve;
+use super::curve::is_empty;
 use super::curve::narrow_high;
 use super::curve::narrow_low;
 use super::curve::widen_high;
@@ -8,57 +9,48 @@ use super::knots::Span;
 use super::knots::knot;
 use super::knots::with_knot;
 use certifier::At;
-use certifier::draw;
-use certifier::gap;
 use numbers::TOP;
-use numbers::less;
 use numbers::minus;
 use numbers::plus;
 ghost use mathlib.Core.Path.{_≡_};
 ghost use lib.ListN.{length};
 
-// The first level at which a frame that has so much needs more, with nothing behind it; none where it never does.
-fn lowest(f: At, has: u64) -> u64 {
-    if has < plus(f.drain, f.least) {
-        return 0;
-    }
-    if has < plus(f.drain, f.most) {
-        return plus(minus(has, f.drain), 1);
-    }
-    TOP << 8
-}
-
-// The first level at which a frame needs so much; above the roof where it never does.
-fn highest(f: At, has: u64, roof: u64) -> u64 {
-    if plus(f.drain, f.most) < has {
-        return plus(roof, 1);
-    }
-    if plus(f.drain, f.least) < has {
-        return minus(has, f.drain);
-    }
-    0
-}
-
-// The same curve from the first level at which it can leave 0 in a frame that has so much.
+// The same curve from the first level on at which a frame that has so much needs more, with nothing behind it.
 fn widen_down(knots: &mut [u64], c: Curve, f: At, has: u64) -> Curve
     ensures { λ _. ⌜ length (now (knots .exit)) ≡ length (now (knots .entry)) ⌝ }
 {
-    let low = lowest(f, has);
-    if low < c.from {
-        return widen_low(knots, c, low);
+    let mut from = 1;
+    if plus(f.drain, f.least) <= has {
+        from = plus(minus(has, f.drain), 1);
     }
-    c
+    if c.from <= from {
+        return c;
+    }
+    if plus(f.drain, f.most) <= has {
+        return c;
+    }
+    widen_low(knots, c, from)
 }
 
-// The same curve up to the first level at which it can become full in a frame.
+// The same curve up to the last level at which a frame does not need its ceiling, with a full store behind it.
 fn widen_up(knots: &mut [u64], c: Curve, f: At, roof: u64) -> Curve
     ensures { λ _. ⌜ length (now (knots .exit)) ≡ length (now (knots .entry)) ⌝ }
 {
-    let high = highest(f, less(f.ceiling, c.full), roof);
-    if c.to < high {
-        return widen_high(knots, c, high);
+    if f.ceiling <= c.full {
+        return c;
     }
-    c
+    let free = minus(f.ceiling, c.full);
+    let mut last = roof;
+    if free <= plus(f.drain, f.most) {
+        last = minus(free, plus(f.drain, 1));
+    }
+    if last <= c.last {
+        return c;
+    }
+    if free <= plus(f.drain, f.least) {
+        return c;
+    }
+    widen_high(knots, c, last)
 }
 
 // The same curve over all levels at which it can leave 0 or become full in a frame that has so much.
@@ -69,57 +61,102 @@ fn widen(knots: &mut [u64], curve: Curve, f: At, has: u64, roof: u64) -> Curve
     widen_up(knots, c, f, roof)
 }
 
-// By how much more a frame draws at one level more.
-fn growth(f: At, level: u64) -> u64 {
-    if minus(level, f.least) < minus(f.most, f.least) {
-        1
-    } else {
-        0
-    }
+// An end of the curve in a frame: what is needed at that level, by how much it grows there, and the knot that the frame
+// brings; 0 is none.
+pub struct End {
+    pub need: u64,
+    pub step: u64,
+    pub knot: u64,
 }
 
-// Whether a knot lies between the ends of the curve.
-fn is_inside(c: Curve, place: u64) -> bool {
-    if place <= c.from {
-        return false;
-    }
-    plus(place, 1) < c.to
-}
-
-// The curve's knots with the one at which a frame's draw begins to grow.
-fn bend_at_least(knots: &mut [u64], c: Curve, s: Span, f: At) -> Span
-    ensures { λ _. ⌜ length (now (knots .exit)) ≡ length (now (knots .entry)) ⌝ }
-{
-    if is_inside(c, f.least) {
-        return with_knot(knots, s, knot(f.least, 1));
-    }
-    s
-}
-
-// The curve's knots with the one at which a frame's draw stops growing.
-fn bend_at_most(knots: &mut [u64], c: Curve, s: Span, f: At) -> Span
-    ensures { λ _. ⌜ length (now (knots .exit)) ≡ length (now (knots .entry)) ⌝ }
-{
-    if is_inside(c, f.most) {
-        return with_knot(knots, s, knot(f.most, TOP));
-    }
-    s
-}
-
-// The curve's knots with both of a frame.
-fn bend(knots: &mut [u64], c: Curve, f: At) -> Span
-    ensures { λ _. ⌜ length (now (knots .exit)) ≡ length (now (knots .entry)) ⌝ }
-{
-    let mut s = Span {
-        first: c.first,
-        end: c.end,
-        moves: c.moves,
-    };
+// The knot at which a frame's draw begins to grow, if it does below the last level.
+fn knot_at_least(c: Curve, f: At) -> u64 {
     if f.most <= f.least {
-        return s;
+        return 0;
     }
-    s = bend_at_least(knots, c, s, f);
-    bend_at_most(knots, c, s, f)
+    if c.last < f.least {
+        return 0;
+    }
+    knot(f.least, 1)
+}
+
+// The knot at which a frame's draw stops growing, if it has grown above the first level.
+fn knot_at_most(c: Curve, f: At) -> u64 {
+    if f.most <= f.least {
+        return 0;
+    }
+    if f.most < c.from {
+        return 0;
+    }
+    knot(f.most, TOP)
+}
+
+// The first level with what a frame draws there.
+fn low_end(c: Curve, f: At) -> End {
+    if c.from <= f.least {
+        return End {
+            need: plus(c.low, plus(f.drain, f.least)),
+            step: c.low_step,
+            knot: knot_at_least(c, f),
+        };
+    }
+    if c.from <= f.most {
+        return End {
+            need: plus(c.low, plus(f.drain, c.from)),
+            step: plus(c.low_step, 1),
+            knot: 0,
+        };
+    }
+    End {
+        need: plus(c.low, plus(f.drain, f.most)),
+        step: c.low_step,
+        knot: 0,
+    }
+}
+
+// The last level with what a frame draws there.
+fn high_end(c: Curve, f: At) -> End {
+    if f.most <= c.last {
+        return End {
+            need: plus(c.high, plus(f.drain, f.most)),
+            step: c.high_step,
+            knot: knot_at_most(c, f),
+        };
+    }
+    if f.least <= c.last {
+        return End {
+            need: plus(c.high, plus(f.drain, c.last)),
+            step: plus(c.high_step, 1),
+            knot: 0,
+        };
+    }
+    End {
+        need: plus(c.high, plus(f.drain, f.least)),
+        step: c.high_step,
+        knot: 0,
+    }
+}
+
+// The knots with two more; 0 is none.
+fn with_knots(knots: &mut [u64], span: Span, one: u64, other: u64) -> Span
+    ensures { λ _. ⌜ length (now (knots .exit)) ≡ length (now (knots .entry)) ⌝ }
+{
+    let mut s = span;
+    let mut next = one;
+    let mut after = other;
+    if one == 0 {
+        if other == 0 {
+            return s;
+        }
+        next = other;
+        after = 0;
+    }
+    while 0 < next {
+        s = with_knot(knots, s, next);
+        next = after;
+        after = 0;
+    }
+    s
 }
 
 // The needs of a frame: with what it draws at each level.
@@ -127,57 +164,38 @@ fn draw_all(knots: &mut [u64], curve: Curve, f: At) -> Curve
     ensures { λ _. ⌜ length (now (knots .exit)) ≡ length (now (knots .entry)) ⌝ }
 {
     let mut c = curve;
-    let last = less(c.to, 1);
-    c.low = plus(c.low, plus(f.drain, draw(f.least, f.most, c.from)));
-    c.low_step = plus(c.low_step, growth(f, c.from));
-    c.high = plus(c.high, plus(f.drain, draw(f.least, f.most, last)));
-    c.high_step = plus(c.high_step, growth(f, minus(last, 1)));
-    let s = bend(knots, c, f);
-    c.first = s.first;
-    c.end = s.end;
-    c.moves = s.moves;
+    let low = low_end(c, f);
+    let high = high_end(c, f);
+    c.low = low.need;
+    c.low_step = low.step;
+    c.high = high.need;
+    c.high_step = high.step;
+    c.span = with_knots(knots, c.span, low.knot, high.knot);
     c
 }
 
-// What is needed beyond what the frame has, and nothing below 0.
-fn cut_low(knots: &[u64], curve: Curve, has: u64) -> Curve {
-    let mut c = curve;
-    if has < c.low {
-        c.low = minus(c.low, has);
-        return c;
-    }
-    if c.from < c.to {
-        return narrow_low(knots, c, has);
-    }
-    c
-}
-
-// The same, and nothing above what a full store needs.
+// Nothing above what a full store needs, of what is needed beyond what the frame has.
 fn cut_high(knots: &[u64], curve: Curve, f: At, has: u64) -> Curve {
     let mut c = curve;
-    if c.to <= c.from {
-        return c;
+    if f.ceiling <= c.high {
+        return narrow_high(knots, c, minus(c.high, f.ceiling), minus(f.ceiling, has));
     }
-    if c.high < f.ceiling {
-        c.high = minus(c.high, has);
-        return c;
-    }
-    narrow_high(knots, c, f.ceiling, has)
+    c.high = minus(c.high, has);
+    c
 }
 
-// The curve with the frame's full store, and with no knot where no two levels are between its ends.
-fn settle(curve: Curve, full: u64) -> Curve {
+// The same, and nothing below 0.
+fn cut(knots: &[u64], curve: Curve, f: At, has: u64) -> Curve {
     let mut c = curve;
-    c.full = full;
-    if plus(c.from, 1) < c.to {
-        return c;
+    if c.low <= has {
+        c = narrow_low(knots, c, minus(has, c.low));
+        if is_empty(c) {
+            return c;
+        }
+    } else {
+        c.low = minus(c.low, has);
     }
-    c.first = c.end;
-    if c.to <= c.from {
-        c.low = full;
-        c.high = 0;
-    }
-    c
+    cut_high(knots, c, f, has)
 }
 
 // The curve before a frame that has so much, from that behind it.
@@ -185,8 +203,20 @@ pub fn pass(knots: &mut [u64], behind: Curve, f: At, has: u64, roof: u64) -> Cur
     ensures { λ _. ⌜ length (now (knots .exit)) ≡ length (now (knots .entry)) ⌝ }
 {
     let mut c = widen(knots, behind, f, has, roof);
+    if is_empty(c) {
+        return c;
+    }
     c = draw_all(knots, c, f);
-    c = cut_low(knots, c, has);
-    c = cut_high(knots, c, f, has);
-    settle(c, gap(f))
+    cut(knots, c, f, has)
+}
+
+// The curve where the first frame, before which it is, has so much more.
+pub fn start_with(knots: &[u64], c: Curve, start: u64) -> Curve {
+    if is_empty(c) {
+        return c;
+    }
+    if start < c.low {
+        return c;
+    }
+    narrow_low(knots, c, minus(start, c.low))
 }

@@ -6,9 +6,11 @@ use certifier::draw;
 use certifier::frame_at;
 use numbers::fill;
 use numbers::less;
+use numbers::low_bits;
 use numbers::minus;
 use numbers::over;
 use numbers::plus;
+use numbers::wide;
 use numbers::within;
 ghost use mathlib.Core.Path.{_≡_};
 ghost use lib.ListN.{length};
@@ -153,22 +155,44 @@ pub struct Drawn {
     pub free: u64,
 }
 
-// What all frames draw at a level.
-fn drawn_at(rule: Rule, harvest: &[u32], least: &[u32], most: &[u32], level: u64) -> Drawn
-    requires { ⌜ Readable rule (now harvest) (now least) (now most) ⌝ }
+// What a frame with these bounds takes at a level.
+fn draw_of(least: u32, most: u32, level: u32) -> u32 {
+    if level < least {
+        return least;
+    }
+    if level < most {
+        return level;
+    }
+    most
+}
+
+// 1 for a frame with these bounds that would take more at one level more, else 0.
+fn free_of(least: u32, most: u32, level: u32) -> u32 {
+    if level < least {
+        return 0;
+    }
+    if level < most {
+        return 1;
+    }
+    0
+}
+
+// What all frames draw at a level; a most that stands for no upper end is above it.
+fn drawn_at(least: &[u32], most: &[u32], level: u64) -> Drawn
+    requires { ⌜ length (now most) ≡ length (now least) ⌝ }
 {
+    let short = low_bits(level) as u32;
     let mut sum = 0;
-    let mut next = 0;
+    let mut free = 0;
     let mut i = 0;
-    while i < harvest.len() {
-        let f = frame_at(rule, harvest, least, most, i);
-        sum = plus(sum, draw(f.least, f.most, level));
-        next = plus(next, draw(f.least, f.most, plus(level, 1)));
+    while i < least.len() {
+        sum = plus(sum, wide(draw_of(least[i], most[i], short)));
+        free = plus(free, wide(free_of(least[i], most[i], short)));
         i += 1;
     }
     Drawn {
         sum: sum,
-        free: minus(next, sum),
+        free: free,
     }
 }
 
@@ -181,20 +205,13 @@ fn nearer(level: u64, d: Drawn, all: u64) -> u64 {
 }
 
 // The level at which all is drawn, or one that is not so far from it where that is not found in some rounds.
-fn shared_level(
-    rule: Rule,
-    harvest: &[u32],
-    least: &[u32],
-    most: &[u32],
-    all: u64,
-    first: u64,
-) -> u64
-    requires { ⌜ Readable rule (now harvest) (now least) (now most) ⌝ }
+fn shared_level(least: &[u32], most: &[u32], all: u64, first: u64) -> u64
+    requires { ⌜ length (now most) ≡ length (now least) ⌝ }
 {
     let mut level = first;
     let mut rounds = ROUNDS;
     while 0 < rounds {
-        let d = drawn_at(rule, harvest, least, most, level);
+        let d = drawn_at(least, most, level);
         let next = nearer(level, d, all);
         if next == level {
             return level;
@@ -222,6 +239,6 @@ pub fn one_shared_level(
     if is_hopeless(rule, harvest, least, most, start, mean) {
         return false;
     }
-    let level = shared_level(rule, harvest, least, most, all, mean);
+    let level = shared_level(least, most, all, mean);
     level_all(rule, harvest, least, most, start, level, levels)
 }

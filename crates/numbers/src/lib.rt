@@ -15,6 +15,8 @@ pub use number::low_bits;
 pub use number::minus;
 pub use number::over;
 pub use number::plus;
+pub use number::quotient;
+pub use number::remainder;
 pub use number::times;
 pub use number::wide;
 pub use number::within;

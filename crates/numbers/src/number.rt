@@ -60,6 +60,26 @@ pub fn over(a: u64, n: u64) -> u64 {
     a / n
 }
 
+// What each of n has of a, both cut to their low 32 bits; all of it where there is none.
+pub fn quotient(a: u64, n: u64) -> u64 {
+    let parts = low_bits(n) as u32;
+    let whole = low_bits(a) as u32;
+    if parts == 0 {
+        return wide(whole);
+    }
+    wide(whole / parts)
+}
+
+// What is left of a if each of n has that much, both cut to their low 32 bits; nothing where there is none.
+pub fn remainder(a: u64, n: u64) -> u64 {
+    let parts = low_bits(n) as u32;
+    let whole = low_bits(a) as u32;
+    if parts == 0 {
+        return 0;
+    }
+    wide(whole % parts)
+}
+
 // A product of numbers of 32 bits.
 pub fn times(a: u64, b: u64) -> u64 {
     low_bits(a) * low_bits(b)

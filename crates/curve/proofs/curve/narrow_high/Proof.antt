@@ -5,16 +5,16 @@ use Rattle.curve.proofs.curve.narrow_high.Statement.{statement}
 use Rattle.curve.proofs.curve.narrow_high.Tie as tie
 
 abbrev Inv-loop : tie.InvT-loop
-Inv-loop knots ceiling has c x₀ need₀ step₀ i₀ x need step i = i ≤ i₀
+Inv-loop knots over full c x₀ above₀ step₀ i₀ x above step i = i ≤ i₀
 
 abbrev μ-loop : tie.MeasureT-loop
-μ-loop knots ceiling has c x₀ need₀ step₀ i₀ x need step i = i
+μ-loop knots over full c x₀ above₀ step₀ i₀ x above step i = i
 
 pub narrow-high-spec : {M : Type 1} → statement M
 narrow-high-spec =
     tie.close
-    (tie.spec Inv-loop μ-loop (λ c κs. search needs) (λ c. search needs) (λ c. search needs)
-    (λ c κs. search needs) (λ c κs. search needs) (λ c κs. search needs) (λ c κs. search needs)
-    (λ c κs. search needs) (λ c κs. search needs) (λ c. search needs) (λ c κs. search needs) (λ c. search needs)
+    (tie.spec Inv-loop μ-loop (λ c κs. search needs) (λ c. search needs) (λ c. search needs) (λ c. search needs)
+    (λ c. search needs) (λ c κs. search needs) (λ c κs. search needs) (λ c κs. search needs)
+    (λ c κs. search needs) (λ c. search needs) (λ c κs. search needs) (λ c κs. search needs) (λ c. search needs)
     (λ c. search needs) (λ c. search needs) (λ c κs. search needs) (λ c κs. search needs) (λ c κs. search needs)
-    (λ c κs. search needs) (λ c. search needs) (λ c. search needs))
+    (λ c. search needs) (λ c κs. search needs) (λ c κs. search needs) (λ c. search needs))

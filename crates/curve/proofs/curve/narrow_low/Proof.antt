@@ -5,16 +5,16 @@ use Rattle.curve.proofs.curve.narrow_low.Statement.{statement}
 use Rattle.curve.proofs.curve.narrow_low.Tie as tie
 
 abbrev Inv-loop : tie.InvT-loop
-Inv-loop knots has c x₀ need₀ step₀ i₀ x need step i = i₀ ≤ i
+Inv-loop knots over c x₀ left₀ step₀ i₀ end x left step i = i₀ ≤ i
 
 abbrev μ-loop : tie.MeasureT-loop
-μ-loop knots has c x₀ need₀ step₀ i₀ x need step i = c .end - i
+μ-loop knots over c x₀ left₀ step₀ i₀ end x left step i = end - i
 
 pub narrow-low-spec : {M : Type 1} → statement M
 narrow-low-spec =
     tie.close
-    (tie.spec Inv-loop μ-loop (λ c. search needs) (λ c κs. search needs) (λ c κs. search needs)
+    (tie.spec Inv-loop μ-loop (λ c κs. search needs) (λ c. search needs) (λ c. search needs) (λ c. search needs)
     (λ c κs. search needs) (λ c κs. search needs) (λ c κs. search needs) (λ c κs. search needs)
-    (λ c. search needs) (λ c κs. search needs) (λ c. search needs) (λ c. search needs) (λ c. search needs)
-    (λ c κs. search needs) (λ c κs. search needs) (λ c κs. search needs) (λ c κs. search needs)
-    (λ c κs. search needs) (λ c. search needs) (λ c. search needs))
+    (λ c. search needs) (λ c κs. search needs) (λ c κs. search needs) (λ c. search needs) (λ c. search needs)
+    (λ c. search needs) (λ c κs. search needs) (λ c κs. search needs) (λ c κs. search needs) (λ c. search needs)
+    (λ c κs. search needs) (λ c κs. search needs) (λ c. search needs))

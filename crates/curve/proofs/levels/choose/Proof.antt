@@ -7,14 +7,14 @@ use Rattle.curve.proofs.levels.choose.Statement.{statement}
 use Rattle.curve.proofs.levels.choose.Tie as tie
 
 abbrev Inv-loop : tie.InvT-loop
-Inv-loop roof lows₀ highs count level₀ k₀ lows level k = length lows ≡ length lows₀
+Inv-loop roof count lows₀ highs level₀ k₀ lows level k = (length lows ≡ length lows₀)
 
 abbrev μ-loop : tie.MeasureT-loop
-μ-loop roof lows₀ highs count level₀ k₀ lows level k = count - k
+μ-loop roof count lows₀ highs level₀ k₀ lows level k = count - k
 
 pub choose-spec : {M : Type 1} → statement M
 choose-spec =
     tie.close
-    (tie.spec Inv-loop μ-loop (λ c. search needs) (λ c κs. search needs) (λ c κs. search needs)
-    (λ c κs. search needs) (λ c κs. search needs) (λ c κs. search needs) (λ c κs. search needs)
+    (tie.spec Inv-loop μ-loop (λ c. search needs) (λ c. search needs) (λ c. search needs) (λ c. search needs)
+    (λ c. search needs) (λ c κs. search needs) (λ c κs. search needs) (λ c. search needs) (λ c. search needs)
     (λ c. search needs) (λ c. search needs) (λ c. search needs) (λ c. search needs) (λ c. search needs))

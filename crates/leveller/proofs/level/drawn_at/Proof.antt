@@ -6,14 +6,16 @@ use Rattle.leveller.proofs.level.drawn_at.Statement.{statement}
 use Rattle.leveller.proofs.level.drawn_at.Tie as tie
 
 abbrev Inv-loop : tie.InvT-loop
-Inv-loop rule harvest least most level sum₀ next₀ i₀ sum next i = i ≤ length harvest
+Inv-loop least most level short sum₀ free₀ i₀ sum free i = i ≤ length least
 
 abbrev μ-loop : tie.MeasureT-loop
-μ-loop rule harvest least most level sum₀ next₀ i₀ sum next i = length harvest - i
+μ-loop least most level short sum₀ free₀ i₀ sum free i = length least - i
 
 pub drawn-at-spec : {M : Type 1} → statement M
 drawn-at-spec =
     tie.close
-    (tie.spec Inv-loop μ-loop (λ c. search needs) (λ c κs. search needs) (λ c κs. search needs)
-    (λ c κs. search needs) (λ c κs. search needs) (λ c κs. search needs) (λ c κs. search needs)
-    (λ c. search needs) (λ c. search needs) (λ c. search needs) (λ c κs. search needs) (λ c. search needs))
+    (tie.spec Inv-loop μ-loop (λ c κs. search needs) (λ c. search needs) (λ c. search needs) (λ c. search needs)
+    (λ c. search needs) (λ c. search needs) (λ c. search needs) (λ c κs. search needs) (λ c κs. search needs)
+    (λ c κs. search needs) (λ c. search needs) (λ c. search needs) (λ c. search needs) (λ c. search needs)
+    (λ c κs. search needs) (λ c κs. search needs) (λ c κs. search needs) (λ c. search needs) (λ c. search needs)
+    (λ c. search needs) (λ c. search needs))

@@ -5,10 +5,10 @@ use Rattle.leveller.proofs.level.shared_level.Statement.{statement}
 use Rattle.leveller.proofs.level.shared_level.Tie as tie
 
 abbrev Inv-loop : tie.InvT-loop
-Inv-loop rule harvest least most all first level₀ rounds₀ level rounds = rounds ≤ rounds₀
+Inv-loop least most all first level₀ rounds₀ level rounds = rounds ≤ rounds₀
 
 abbrev μ-loop : tie.MeasureT-loop
-μ-loop rule harvest least most all first level₀ rounds₀ level rounds = rounds
+μ-loop least most all first level₀ rounds₀ level rounds = rounds
 
 pub shared-level-spec : {M : Type 1} → statement M
 shared-level-spec =

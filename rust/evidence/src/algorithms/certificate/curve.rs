@@ -13,7 +13,7 @@
 use super::frame::{Frame, Frames, TOP};
 
 /// How many knots may be moved for each frame.
-const MOVES: u64 = 48;
+const MOVES: u64 = 128;
 
 /// How many frames are few, and how many knots there may be for few frames and for the most that a request has.
 const FEW: usize = 128;
@@ -29,27 +29,22 @@ pub fn knots(frames: usize) -> usize {
     }
 }
 
-/// The knots are knots[first..end], and `moves` of them may still be moved.
-#[derive(Clone, Copy)]
-struct Span {
-    first: usize,
-    end: usize,
-    moves: u64,
-}
-
-/// The curve is 0 below level `from` and `full` from level `to` on. It is `low` at `from` and grows by `low_step` to the next
-/// level; it is `high` at the last level below `to`, to which it grew by `high_step`. Where no level is between, `low` is
-/// `full` and `high` 0.
+/// The curve is 0 below level `from` and `full` above level `last`. It comes to `low` at `from` by `low_step` for a level, and
+/// goes on from `high` at `last` by `high_step`. The knots of these levels are knots[first..end], and `moves` of them were
+/// moved. Where no level is between, `last` is just below `from`, and lows, highs and steps say nothing. Level 0 is always
+/// below `from`: no frame's level is lower, so nobody asks for its reserve.
 #[derive(Clone, Copy)]
 struct Curve {
     from: u64,
-    to: u64,
+    last: u64,
     full: u64,
     low: u64,
     low_step: u64,
     high: u64,
     high_step: u64,
-    knots: Span,
+    first: usize,
+    end: usize,
+    moves: u64,
 }
 
 /// A knot: its level, and the change of the growth there, modulo 2^32.
@@ -76,12 +71,6 @@ fn unbent(step: u64, knot: u64) -> u64 {
     step.wrapping_sub(knot) & TOP
 }
 
-/// The knot at a place of the list; 0 outside.
-#[inline(always)]
-fn knot_at(knots: &[u64], i: usize) -> u64 {
-    knots.get(i).copied().unwrap_or(0)
-}
-
 /// Writes a knot at a place of the list; nothing outside.
 #[inline(always)]
 fn put_knot(knots: &mut [u64], i: usize, knot: u64) {
@@ -90,26 +79,34 @@ fn put_knot(knots: &mut [u64], i: usize, knot: u64) {
     }
 }
 
-/// Writes a knot before all that are not below it; the others go down by one place. Gives where it would have stood.
+/// Writes a knot before all that are not below it; the others go down by one place, four at a time as long as four do. Gives
+/// where it would have stood.
+#[inline(always)]
 fn sort_up(knots: &mut [u64], first: usize, end: usize, knot: u64) -> usize {
-    if first == 0 || knots.len() < end {
-        return end;
-    }
     let mut i = first;
+    while 4 <= end - i && knots[i + 3] < knot {
+        let four: [u64; 4] = knots[i..i + 4].try_into().expect("four knots");
+        knots[i - 1..i + 3].copy_from_slice(&four);
+        i += 4;
+    }
     while i < end && knots[i] < knot {
         knots[i - 1] = knots[i];
         i += 1;
     }
-    put_knot(knots, i - 1, knot);
+    knots[i - 1] = knot;
     i
 }
 
-/// Writes a knot behind all that are not above it; the others go up by one place. Gives where it stands.
+/// Writes a knot behind all that are not above it; the others go up by one place, four at a time as long as four do. Gives
+/// where it stands.
+#[inline(always)]
 fn sort_down(knots: &mut [u64], first: usize, end: usize, knot: u64) -> usize {
-    if knots.len() <= end {
-        return first;
-    }
     let mut i = end;
+    while 4 <= i - first && knot < knots[i - 4] {
+        let four: [u64; 4] = knots[i - 4..i].try_into().expect("four knots");
+        knots[i - 3..=i].copy_from_slice(&four);
+        i -= 4;
+    }
     while first < i && knot < knots[i - 1] {
         knots[i] = knots[i - 1];
         i -= 1;
@@ -118,55 +115,69 @@ fn sort_down(knots: &mut [u64], first: usize, end: usize, knot: u64) -> usize {
     i
 }
 
-/// The knots with one more, which comes to its place from the nearer end.
-#[inline(never)]
-fn with_knot(knots: &mut [u64], span: Span, knot: u64) -> Span {
-    let mut s = span;
-    if knot < knot_at(knots, s.first.wrapping_add(s.end) / 2) {
-        let i = sort_up(knots, s.first, s.end, knot);
-        s.moves = s.moves.saturating_sub(i.wrapping_sub(s.first) as u64);
-        s.first = s.first.wrapping_sub(1);
-        return s;
+/// The curve with one knot more, which comes to its place from the nearer end; the same curve where it has no room.
+#[inline(always)]
+fn with_knot(knots: &mut [u64], curve: Curve, knot: u64) -> Curve {
+    let mut c = curve;
+    if c.first == 0 || c.end < c.first || knots.len() <= c.end {
+        return c;
     }
-    let i = sort_down(knots, s.first, s.end, knot);
-    s.moves = s.moves.saturating_sub(s.end.wrapping_sub(i) as u64);
-    s.end = s.end.wrapping_add(1);
-    s
+    if knot < knots[(c.first + c.end) / 2] {
+        let i = sort_up(knots, c.first, c.end, knot);
+        c.moves += (i - c.first) as u64;
+        c.first -= 1;
+        return c;
+    }
+    let i = sort_down(knots, c.first, c.end, knot);
+    c.moves += (c.end - i) as u64;
+    c.end += 1;
+    c
 }
 
-/// The curve with a knot before all others.
+/// The curve with a knot before all others; the same where it bends nothing.
 #[inline(always)]
 fn with_first(knots: &mut [u64], curve: Curve, place: u64, bend: u64) -> Curve {
     let mut c = curve;
-    c.knots.first = c.knots.first.wrapping_sub(1);
-    put_knot(knots, c.knots.first, knot(place, bend));
+    if bend & TOP == 0 {
+        return c;
+    }
+    c.first = c.first.wrapping_sub(1);
+    put_knot(knots, c.first, knot(place, bend));
     c
 }
 
-/// The curve with a knot behind all others.
+/// The curve with a knot behind all others; the same where it bends nothing.
 #[inline(always)]
 fn with_last(knots: &mut [u64], curve: Curve, place: u64, bend: u64) -> Curve {
     let mut c = curve;
-    put_knot(knots, c.knots.end, knot(place, bend));
-    c.knots.end = c.knots.end.wrapping_add(1);
+    if bend & TOP == 0 {
+        return c;
+    }
+    put_knot(knots, c.end, knot(place, bend));
+    c.end = c.end.wrapping_add(1);
     c
 }
 
-/// The same curve with a lower level as the first at which it is counted.
+/// Whether no level lies between the ends of the curve.
+#[inline(always)]
+fn is_empty(c: Curve) -> bool {
+    c.last < c.from
+}
+
+/// The same curve counted from a lower level on.
 #[inline(always)]
 fn widen_low(knots: &mut [u64], curve: Curve, from: u64) -> Curve {
     let mut c = curve;
-    let inside = c.to.saturating_sub(c.from);
-    if 1 < inside {
-        c = with_first(knots, c, c.from, c.low_step.wrapping_sub(c.low));
-    } else {
-        c.high_step = inside * c.low;
-    }
-    c.low_step = c.low;
-    if from + 1 < curve.from {
+    if is_empty(c) {
         c.low_step = 0;
-        if 0 < inside {
-            c = with_first(knots, c, curve.from - 1, curve.low);
+        c.high = 0;
+        c.high_step = 0;
+    } else {
+        c = with_first(knots, c, c.from, c.low_step.wrapping_sub(c.low));
+        c.low_step = c.low;
+        if from + 1 < c.from {
+            c = with_first(knots, c, c.from - 1, c.low);
+            c.low_step = 0;
         }
     }
     c.from = from;
@@ -174,178 +185,172 @@ fn widen_low(knots: &mut [u64], curve: Curve, from: u64) -> Curve {
     c
 }
 
-/// The same curve with a higher level as the first from which it is not counted.
+/// The same curve counted up to a higher level.
 #[inline(always)]
-fn widen_high(knots: &mut [u64], curve: Curve, to: u64) -> Curve {
+fn widen_high(knots: &mut [u64], curve: Curve, last: u64) -> Curve {
     let mut c = curve;
-    let last = c.full.wrapping_sub(c.high);
-    let inside = c.to.saturating_sub(c.from);
-    if 1 < inside {
-        c = with_last(knots, c, c.to - 1, last.wrapping_sub(c.high_step));
-    } else {
-        c.low_step = inside * last;
-    }
-    c.high_step = last;
-    if curve.to + 1 < to {
+    if is_empty(c) {
+        c.low = c.full;
+        c.low_step = 0;
         c.high_step = 0;
-        if 0 < inside {
-            c = with_last(knots, c, curve.to, 0u64.wrapping_sub(last));
+    } else {
+        let step = c.full.wrapping_sub(c.high);
+        c = with_last(knots, c, c.last, step.wrapping_sub(c.high_step));
+        c.high_step = step;
+        if c.last + 1 < last {
+            c = with_last(knots, c, c.last + 1, 0u64.wrapping_sub(step));
+            c.high_step = 0;
         }
     }
-    c.to = to;
+    c.last = last;
     c.high = c.full;
     c
 }
 
-/// The curve begun behind the last level that needs no more than a frame has. From knot i - 1, at level x, the need grows by
-/// `step`, and at knot i it is too much.
+/// How many levels a need goes on by steps before it has grown by more than so much.
 #[inline(always)]
-fn begin(curve: Curve, i: usize, x: u64, need: u64, step: u64, has: u64) -> Curve {
+fn run_of(far: u64, step: u64) -> u64 {
+    u64::from(far as u32 / (step as u32).max(1)) + 1
+}
+
+/// The curve begun behind the last level that needs no more than a frame has. At level x, below knot i, `short` more would be
+/// needed for that, and the need grows by `step`.
+#[inline(always)]
+fn begin(curve: Curve, i: usize, x: u64, short: u64, step: u64) -> Curve {
     let mut c = curve;
-    let run = has.wrapping_sub(need) / step.max(1) + 1;
+    let run = run_of(short, step);
     c.from = x.wrapping_add(run);
-    c.low = need.wrapping_add(step.wrapping_mul(run)).wrapping_sub(has);
+    c.low = step.wrapping_mul(run).wrapping_sub(short);
     c.low_step = step;
-    c.knots.first = i;
+    c.first = i;
     c
 }
 
-/// The curve without the levels that need no more than a frame has.
+/// The curve without the levels that need no more than a frame has, of which `short` is left at its first level.
 #[inline(always)]
-fn narrow_low(knots: &[u64], curve: Curve, has: u64) -> Curve {
+fn narrow_low(knots: &[u64], curve: Curve, short: u64) -> Curve {
     let mut c = curve;
-    let (mut x, mut need, mut step) = (c.from, c.low, c.low_step);
-    let mut i = c.knots.first;
-    while i < c.knots.end {
-        let next = knot_at(knots, i);
-        let place = place_of(next);
-        let more = need.wrapping_add(step.wrapping_mul(place.wrapping_sub(x)));
-        if has < more {
-            return begin(c, i, x, need, step, has);
+    let (mut x, mut short, mut step) = (c.from, short, c.low_step);
+    let mut i = c.first;
+    while i < c.end && i < knots.len() {
+        let place = place_of(knots[i]);
+        let rise = step.wrapping_mul(place.wrapping_sub(x));
+        if short < rise {
+            return begin(c, i, x, short, step);
         }
-        need = more;
+        short -= rise;
         x = place;
-        step = bent(step, next);
+        step = bent(step, knots[i]);
         i += 1;
     }
-    if has < need.wrapping_add(step.wrapping_mul(c.to.saturating_sub(x.wrapping_add(1)))) {
-        return begin(c, i, x, need, step, has);
+    if short < step.wrapping_mul(c.last.wrapping_sub(x)) {
+        return begin(c, i, x, short, step);
     }
-    c.from = c.to;
+    c.from = c.last + 1;
+    c.first = c.end;
     c
 }
 
-/// The curve ended at the first level that needs the ceiling. From knot i, at level x, the need falls by `step`, and at
-/// knot i - 1 it is below the ceiling.
+/// The curve ended at the last level that needs less than the ceiling. At level x, above knot i - 1, the need is `over` it, and
+/// it falls by `step`; `full` is what the ceiling leaves.
 #[inline(always)]
-fn finish(curve: Curve, i: usize, x: u64, need: u64, step: u64, ceiling: u64, has: u64) -> Curve {
+fn finish(curve: Curve, i: usize, x: u64, over: u64, step: u64, full: u64) -> Curve {
     let mut c = curve;
-    let run = need.wrapping_sub(ceiling) / step.max(1) + 1;
-    c.to = x.wrapping_add(1).wrapping_sub(run);
-    c.high = need.wrapping_sub(step.wrapping_mul(run)).wrapping_sub(has);
+    let run = run_of(over, step);
+    c.last = x.wrapping_sub(run);
+    c.high = full.wrapping_add(over).wrapping_sub(step.wrapping_mul(run));
     c.high_step = step;
-    c.knots.end = i;
+    c.end = i;
     c
 }
 
-/// The curve without the levels that need the ceiling.
+/// The curve without the levels that need the ceiling, which its last level is `over`; `full` is what the ceiling leaves.
 #[inline(always)]
-fn narrow_high(knots: &[u64], curve: Curve, ceiling: u64, has: u64) -> Curve {
+fn narrow_high(knots: &[u64], curve: Curve, over: u64, full: u64) -> Curve {
     let mut c = curve;
-    let (mut x, mut need, mut step) = (c.to.wrapping_sub(1), c.high, c.high_step);
-    let mut i = c.knots.end;
-    while c.knots.first < i {
-        let next = knot_at(knots, i - 1);
-        let place = place_of(next);
-        let fewer = need.wrapping_sub(step.wrapping_mul(x.wrapping_sub(place)));
-        if fewer < ceiling {
-            return finish(c, i, x, need, step, ceiling, has);
+    let (mut x, mut over, mut step) = (c.last, over, c.high_step);
+    let mut i = c.end;
+    while c.first < i && i <= knots.len() {
+        let place = place_of(knots[i - 1]);
+        let fall = step.wrapping_mul(x.wrapping_sub(place));
+        if over < fall {
+            return finish(c, i, x, over, step, full);
         }
-        need = fewer;
+        over -= fall;
         x = place;
-        step = unbent(step, next);
+        step = unbent(step, knots[i - 1]);
         i -= 1;
     }
-    if need.wrapping_sub(step.wrapping_mul(x.saturating_sub(c.from))) < ceiling {
-        return finish(c, i, x, need, step, ceiling, has);
+    if over < step.wrapping_mul(x.wrapping_sub(c.from)) {
+        return finish(c, i, x, over, step, full);
     }
-    c.to = c.from;
+    c.last = c.from - 1;
+    c.first = c.end;
     c
 }
 
-/// The first level at which a frame that has so much needs more, with nothing behind it; none where it never does.
-#[inline(always)]
-fn lowest(f: &Frame, has: u64) -> u64 {
-    if has < f.drain + f.least {
-        0
-    } else if has < f.drain + f.most {
-        has - f.drain + 1
-    } else {
-        u64::MAX
-    }
-}
-
-/// The first level at which a frame needs so much; above the roof where it never does.
-#[inline(always)]
-fn highest(f: &Frame, has: u64, roof: u64) -> u64 {
-    if f.drain + f.most < has {
-        roof + 1
-    } else if f.drain + f.least < has {
-        has - f.drain
-    } else {
-        0
-    }
-}
-
-/// The same curve from the first level at which it can leave 0 in a frame that has so much.
+/// The same curve from the first level on at which a frame that has so much needs more, though nothing is needed behind it.
 #[inline(always)]
 fn widen_down(knots: &mut [u64], c: Curve, f: &Frame, has: u64) -> Curve {
-    let low = lowest(f, has);
-    if low < c.from {
-        return widen_low(knots, c, low);
+    let from = if has < f.drain + f.least { 1 } else { has - f.drain + 1 };
+    if from < c.from && has < f.drain + f.most {
+        return widen_low(knots, c, from);
     }
     c
 }
 
-/// The same curve up to the first level at which it can become full in a frame.
+/// The same curve up to the last level at which a frame that can draw so much holds more, though a full store is needed behind
+/// it.
 #[inline(always)]
-fn widen_up(knots: &mut [u64], c: Curve, f: &Frame, roof: u64) -> Curve {
-    let high = highest(f, f.ceiling.saturating_sub(c.full), roof);
-    if c.to < high {
-        return widen_high(knots, c, high);
+fn widen_up(knots: &mut [u64], c: Curve, f: &Frame, free: u64, roof: u64) -> Curve {
+    let last = if f.drain + f.most < free {
+        roof
+    } else {
+        free.wrapping_sub(f.drain + 1)
+    };
+    if c.last < last && f.drain + f.least < free {
+        return widen_high(knots, c, last);
     }
     c
 }
 
-/// By how much more a frame draws at one level more.
+/// The needs of a frame at the first level, and the knot where its draw begins to grow.
 #[inline(always)]
-fn growth(f: &Frame, level: u64) -> u64 {
-    u64::from(level.wrapping_sub(f.least) < f.most - f.least)
-}
-
-/// Whether a knot lies between the ends of the curve.
-#[inline(always)]
-fn is_inside(c: Curve, place: u64) -> bool {
-    c.from < place && place + 1 < c.to
-}
-
-/// The needs of a frame: with what it draws at each level, which begins to grow at its least and stops at its most.
-#[inline(always)]
-fn draw_all(knots: &mut [u64], curve: Curve, f: &Frame) -> Curve {
+fn draw_low(knots: &mut [u64], curve: Curve, f: &Frame) -> Curve {
     let mut c = curve;
-    let last = c.to.saturating_sub(1);
-    c.low = c.low.wrapping_add(f.drain + f.draw(c.from));
-    c.low_step = c.low_step.wrapping_add(growth(f, c.from));
-    c.high = c.high.wrapping_add(f.drain + f.draw(last));
-    c.high_step = c.high_step.wrapping_add(growth(f, last.wrapping_sub(1)));
-    if f.least < f.most {
-        if is_inside(c, f.least) {
-            c.knots = with_knot(knots, c.knots, knot(f.least, 1));
+    if c.from <= f.least {
+        c.low = c.low.wrapping_add(f.drain + f.least);
+        if f.least <= c.last && f.least < f.most {
+            return with_knot(knots, c, knot(f.least, 1));
         }
-        if is_inside(c, f.most) {
-            c.knots = with_knot(knots, c.knots, knot(f.most, TOP));
-        }
+        return c;
     }
+    if c.from <= f.most {
+        c.low = c.low.wrapping_add(f.drain + c.from);
+        c.low_step += 1;
+        return c;
+    }
+    c.low = c.low.wrapping_add(f.drain + f.most);
+    c
+}
+
+/// The needs of a frame at the last level, and the knot where its draw stops growing.
+#[inline(always)]
+fn draw_high(knots: &mut [u64], curve: Curve, f: &Frame) -> Curve {
+    let mut c = curve;
+    if f.most <= c.last {
+        c.high = c.high.wrapping_add(f.drain + f.most);
+        if c.from <= f.most && f.least < f.most {
+            return with_knot(knots, c, knot(f.most, TOP));
+        }
+        return c;
+    }
+    if f.least <= c.last {
+        c.high = c.high.wrapping_add(f.drain + c.last);
+        c.high_step += 1;
+        return c;
+    }
+    c.high = c.high.wrapping_add(f.drain + f.least);
     c
 }
 
@@ -353,13 +358,10 @@ fn draw_all(knots: &mut [u64], curve: Curve, f: &Frame) -> Curve {
 #[inline(always)]
 fn cut_low(knots: &[u64], curve: Curve, has: u64) -> Curve {
     let mut c = curve;
-    if has < c.low {
-        c.low -= has;
-        return c;
+    if c.low <= has {
+        return narrow_low(knots, c, has - c.low);
     }
-    if c.from < c.to {
-        return narrow_low(knots, c, has);
-    }
+    c.low -= has;
     c
 }
 
@@ -367,29 +369,10 @@ fn cut_low(knots: &[u64], curve: Curve, has: u64) -> Curve {
 #[inline(always)]
 fn cut_high(knots: &[u64], curve: Curve, f: &Frame, has: u64) -> Curve {
     let mut c = curve;
-    if c.to <= c.from {
-        return c;
+    if f.ceiling <= c.high {
+        return narrow_high(knots, c, c.high - f.ceiling, f.ceiling.wrapping_sub(has));
     }
-    if c.high < f.ceiling {
-        c.high = c.high.wrapping_sub(has);
-        return c;
-    }
-    narrow_high(knots, c, f.ceiling, has)
-}
-
-/// The curve with the frame's full store, and with no knot where no two levels are between its ends.
-#[inline(always)]
-fn settle(curve: Curve, full: u64) -> Curve {
-    let mut c = curve;
-    c.full = full;
-    if c.from.wrapping_add(1) < c.to {
-        return c;
-    }
-    c.knots.first = c.knots.end;
-    if c.to <= c.from {
-        c.low = full;
-        c.high = 0;
-    }
+    c.high = c.high.wrapping_sub(has);
     c
 }
 
@@ -397,40 +380,17 @@ fn settle(curve: Curve, full: u64) -> Curve {
 #[inline(always)]
 fn pass(knots: &mut [u64], behind: Curve, f: &Frame, has: u64, roof: u64) -> Curve {
     let mut c = widen_down(knots, behind, f, has);
-    c = widen_up(knots, c, f, roof);
-    c = draw_all(knots, c, f);
+    c = widen_up(knots, c, f, f.ceiling.saturating_sub(c.full), roof);
+    if is_empty(c) {
+        return c;
+    }
+    c = draw_low(knots, c, f);
+    c = draw_high(knots, c, f);
     c = cut_low(knots, c, has);
-    c = cut_high(knots, c, f, has);
-    settle(c, f.gap())
-}
-
-/// The frame with no bound above the roof: more than all that there is is never drawn.
-#[inline(always)]
-fn frame_below(frames: &impl Frames, k: usize, roof: u64) -> Frame {
-    let mut f = frames.at(k);
-    if roof <= f.most + 1 {
-        f.most = roof;
+    if is_empty(c) {
+        return c;
     }
-    f.least = f.least.min(f.most);
-    f
-}
-
-/// The curve behind the last frame: the end charge at every level.
-fn first_curve(end: u64, count: usize, middle: usize) -> Curve {
-    Curve {
-        from: 0,
-        to: 0,
-        full: end,
-        low: end,
-        low_step: 0,
-        high: 0,
-        high_step: 0,
-        knots: Span {
-            first: middle,
-            end: middle,
-            moves: MOVES * (count as u64 + 1),
-        },
-    }
+    cut_high(knots, c, f, has)
 }
 
 /// The curve that is 0 at every level.
@@ -438,63 +398,82 @@ fn first_curve(end: u64, count: usize, middle: usize) -> Curve {
 fn nothing(curve: Curve, roof: u64) -> Curve {
     let mut c = curve;
     c.from = roof + 1;
-    c.to = c.from;
-    c.low = 0;
-    c.high = 0;
+    c.last = roof;
+    c.first = c.end;
     c
 }
 
-/// The curve of a frame that takes nothing over and leaves nothing: one level, where it draws all that it has.
-#[inline(always)]
-fn lone(curve: Curve, f: &Frame, has: u64, roof: u64) -> Curve {
-    let mut c = curve;
-    let level = has.saturating_sub(f.drain);
-    c.from = if f.most <= level { roof + 1 } else { level + 1 };
-    c.to = c.from;
-    c
-}
-
-/// What a frame has for sure: the first one with the start charge; one that takes nothing over has all that it holds.
-#[inline(always)]
-fn has_at(f: &Frame, k: usize, start: u64) -> u64 {
-    if k == 0 {
-        f.room(start)
-    } else if f.gap() == 0 {
-        f.ceiling
-    } else {
-        f.inflow
+/// The curve behind the last frame: the end charge at every level.
+fn first_curve(end: u64, full: u64, roof: u64, middle: usize) -> Curve {
+    let c = Curve {
+        from: 1,
+        last: roof,
+        full,
+        low: end,
+        low_step: 0,
+        high: end,
+        high_step: 0,
+        first: middle,
+        end: middle,
+        moves: 0,
+    };
+    if end == 0 {
+        return nothing(c, roof);
     }
+    c
 }
 
-/// The curve before a frame that has so much, from that behind it.
+/// The curve before a frame, from that behind it. Where the frame takes nothing over, one level is left, at which it draws all
+/// that it has.
 #[inline(always)]
-fn next(knots: &mut [u64], behind: Curve, f: &Frame, has: u64, roof: u64) -> Curve {
-    let mut c = behind;
+fn next(knots: &mut [u64], behind: Curve, f: &Frame, roof: u64) -> Curve {
+    let mut c = pass(knots, behind, f, f.ceiling.min(f.inflow), roof);
+    c.full = f.gap();
     if c.full == 0 {
-        if f.gap() == 0 {
-            return lone(c, f, has, roof);
-        }
-        c = nothing(c, roof);
+        c.last = c.from - 1;
     }
-    pass(knots, c, f, has, roof)
+    c
+}
+
+/// A frame whose most, where it has no upper end, is above every level.
+#[inline(always)]
+fn frame_at(frames: &impl Frames, k: usize) -> Frame {
+    let mut f = frames.at(k);
+    f.most = frames.upper_end(k);
+    f
+}
+
+/// The curve at the level of the first frame, which has the start charge.
+fn started(knots: &[u64], c: Curve, start: u64) -> Curve {
+    if is_empty(c) || start < c.low {
+        return c;
+    }
+    narrow_low(knots, c, start - c.low)
 }
 
 /// Draws the curve from behind, and writes the last level at which the reserve before each frame is 0, and the last at
 /// which it is not full. Says whether the allowance sufficed.
 fn draw_curve(frames: &impl Frames, roof: u64, lows: &mut [u32], highs: &mut [u32], knots: &mut [u64]) -> bool {
-    let mut c = first_curve(frames.end(), frames.count(), knots.len() / 2);
-    let mut k = frames.count();
+    let count = frames.count();
+    let full = count.checked_sub(1).map_or(0, |k| frames.at(k).gap());
+    let mut c = first_curve(frames.end(), full, roof, knots.len() / 2);
+    let mut k = count;
     while 0 < k {
         k -= 1;
-        let f = frame_below(frames, k, roof);
-        c = next(knots, c, &f, has_at(&f, k, frames.start()), roof);
-        lows[k] = c.from.saturating_sub(1) as u32;
-        highs[k] = c.to.saturating_sub(1) as u32;
-        if c.knots.moves == 0 {
-            return false;
+        let f = frame_at(frames, k);
+        c = next(knots, c, &f, roof);
+        lows[k] = (c.from - 1) as u32;
+        highs[k] = c.last as u32;
+        if c.full == 0 {
+            c = nothing(c, roof);
         }
     }
-    true
+    if 0 < count && 0 < c.full {
+        c = started(knots, c, frames.start());
+        lows[0] = (c.from - 1) as u32;
+        highs[0] = lows[0];
+    }
+    c.moves < MOVES * (count as u64 + 1)
 }
 
 /// Writes the levels over the lowest ones: each is the level before it, or the nearest between its two. A level at the roof

@@ -39,6 +39,8 @@ pub trait Frames {
     fn end(&self) -> u64;
     fn count(&self) -> usize;
     fn at(&self, i: usize) -> Frame;
+    /// The most of a frame; the top where it has no upper end.
+    fn upper_end(&self, i: usize) -> u64;
     /// All that comes in, less what is drained.
     fn brought(&self) -> u64;
     /// All that there is: no budget is above it.
@@ -99,6 +101,11 @@ impl Frames for Plain<'_> {
         }
     }
 
+    #[inline(always)]
+    fn upper_end(&self, _: usize) -> u64 {
+        TOP
+    }
+
     fn brought(&self) -> u64 {
         self.most - self.start
     }
@@ -152,6 +159,11 @@ impl Frames for Bounded<'_> {
         }
     }
 
+    #[inline(always)]
+    fn upper_end(&self, i: usize) -> u64 {
+        u64::from(self.most[i])
+    }
+
     fn brought(&self) -> u64 {
         self.plain.brought()
     }
@@ -189,6 +201,10 @@ impl Frames for Listed {
 
     fn at(&self, i: usize) -> Frame {
         self.frames[i]
+    }
+
+    fn upper_end(&self, i: usize) -> u64 {
+        self.frames[i].most
     }
 
     fn brought(&self) -> u64 {

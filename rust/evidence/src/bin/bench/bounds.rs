@@ -1,5 +1,7 @@
-//! What bounds cost: the rows with leasts and mosts against the same rows without, over all capacities.
+//! What bounds cost: the rows with leasts and mosts against the same rows without, over all capacities, and how the
+//! families with bounds grow.
 
+use crate::aims::GROWTH;
 use crate::contenders::{Call, CALLS};
 use crate::instructions::Counts;
 use crate::measured::Measured;
@@ -65,9 +67,39 @@ fn lines(what: &str, call: Call, frames: usize, figure: impl Fn(&Row) -> Option<
     text
 }
 
+/// How each family with bounds grows from half a week to a week, over all capacities, the worst first.
+fn growths(call: Call, counts: &Counts) -> Option<Vec<(f64, String)>> {
+    let families = |frames| Some(sums(frames, |row| counts.count(call, row))?.1);
+    let (half_week, week) = (families(FRAMES[1])?, families(FRAMES[2])?);
+    let grown = half_week.into_iter().zip(week);
+    let mut growths: Vec<(f64, String)> = grown.map(|((name, a), (_, b))| (b.with / a.with, name)).collect();
+    growths.sort_by(|a, b| b.0.total_cmp(&a.0));
+    Some(growths)
+}
+
+/// A line for a call: the worst growth of a family with bounds, and one for each other family that grows too much.
+fn growth_lines(call: Call, counts: &Counts) -> String {
+    let mut text = String::new();
+    for (i, (growth, name)) in growths(call, counts).unwrap_or_default().iter().enumerate() {
+        let verdict = if *growth <= GROWTH { "met" } else { "missed" };
+        if i == 0 {
+            let _ = writeln!(
+                text,
+                "- {}, growth with bounds in instructions: {verdict}; the worst: {growth:.2} {name}",
+                call.name()
+            );
+        } else if GROWTH < *growth {
+            let _ = writeln!(text, "  - {growth:.2} {name}");
+        }
+    }
+    text
+}
+
 /// The head of the section.
 fn head() -> String {
-    format!("\n## Bounds\n\nWith leasts and mosts at most {TOGETHER} of without; families above {ALONE} are named.\n\n")
+    format!(
+        "\n## Bounds\n\nWith leasts and mosts at most {TOGETHER} of without; families above {ALONE} are named. Each family grows\nfrom half a week to a week by at most {GROWTH}.\n\n"
+    )
 }
 
 /// The ratios in counted instructions.
@@ -77,6 +109,7 @@ pub fn counted(counts: &Counts) -> String {
         for frames in FRAMES {
             text += &lines("instructions", call, frames, |row| counts.count(call, row));
         }
+        text += &growth_lines(call, counts);
     }
     text
 }

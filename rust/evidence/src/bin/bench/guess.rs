@@ -1,6 +1,6 @@
 //! Which guess was certified, by the counters of the library's twin.
 
-use crate::rows::{Request, Row};
+use crate::rows::{Request, Row, COUNTED};
 use evidence::algorithms::certificate::Counters;
 use evidence::fast::plan_into;
 
@@ -13,7 +13,9 @@ fn count(request: &Request, counters: &mut Counters) {
 /// The guesses that were certified for the plans of a row, and for how many of them.
 pub fn guess(row: &Row) -> String {
     let mut counters = Counters::default();
-    row.requests().iter().for_each(|request| count(request, &mut counters));
+    row.requests(COUNTED)
+        .iter()
+        .for_each(|request| count(request, &mut counters));
     let Counters {
         one_level,
         string,

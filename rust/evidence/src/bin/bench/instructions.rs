@@ -2,7 +2,7 @@
 
 use crate::beside::Beside;
 use crate::contenders::{library, other, Call, CALLS};
-use crate::rows::{rows, Row};
+use crate::rows::{self, rows, Row};
 use evidence::families::FRAMES;
 use std::fmt::Write;
 use std::process::{Command, Stdio};
@@ -23,7 +23,7 @@ pub fn play(call: Call, beside: Option<&Beside>) {
         None => library(call),
     };
     for row in rows(&COUNTED) {
-        row.requests().iter().for_each(|request| run(request));
+        row.requests(rows::COUNTED).iter().for_each(|request| run(request));
     }
 }
 
@@ -66,11 +66,11 @@ fn means(call: Call, beside: Option<&Beside>) -> Result<Vec<u64>, String> {
     let each = each(call, beside)?;
     let mut rest = each.iter().copied();
     let mut mean = |row: &Row| {
-        let count = row.requests().len();
+        let count = row.requests(rows::COUNTED).len();
         rest.by_ref().take(count).sum::<u64>() / count as u64
     };
     let means = rows(&COUNTED).iter().map(&mut mean).collect();
-    let expected: usize = rows(&COUNTED).iter().map(|row| row.requests().len()).sum();
+    let expected: usize = rows(&COUNTED).iter().map(|row| row.requests(rows::COUNTED).len()).sum();
     if each.len() != expected {
         return Err(format!("callgrind counted {} calls, not {expected}", each.len()));
     }

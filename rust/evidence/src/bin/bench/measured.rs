@@ -3,7 +3,7 @@
 use crate::beside::Beside;
 use crate::contenders::{library, other, source, twin, Call, Run, CALLS};
 use crate::instructions::Counts;
-use crate::rows::{rows, Request, Row};
+use crate::rows::{rows, Request, Row, TIMED};
 use crate::time::{lower, ROUNDS};
 use evidence::families::FRAMES;
 
@@ -38,17 +38,28 @@ fn runs(call: Call, beside: Option<&Beside>) -> Vec<Run> {
     runs
 }
 
+/// A request and its best times by each implementation.
+type Timed = (Request, Vec<f64>);
+
+/// The mean of a row's requests for each implementation.
+fn means(requests: &[Timed]) -> Vec<f64> {
+    let (_, first) = &requests[0];
+    let mean = |i| requests.iter().map(|(_, best)| best[i]).sum::<f64>() / requests.len() as f64;
+    (0..first.len()).map(mean).collect()
+}
+
 /// The times of a call in all rows by each implementation.
 fn times(call: Call, rows: &[Row], beside: Option<&Beside>) -> Vec<Vec<f64>> {
     let mut runs = runs(call, beside);
-    let requests: Vec<Vec<Request>> = rows.iter().map(Row::requests).collect();
-    let mut best = vec![vec![f64::INFINITY; runs.len()]; rows.len()];
+    let untimed = |request| (request, vec![f64::INFINITY; runs.len()]);
+    let requests = |row: &Row| -> Vec<Timed> { row.requests(TIMED).into_iter().map(untimed).collect() };
+    let mut all: Vec<Vec<Timed>> = rows.iter().map(requests).collect();
     for _ in 0..ROUNDS {
-        for (best, requests) in best.iter_mut().zip(&requests) {
-            lower(best, requests, &mut runs);
+        for (request, best) in all.iter_mut().flatten() {
+            lower(best, request, &mut runs);
         }
     }
-    best
+    all.iter().map(|requests| means(requests)).collect()
 }
 
 /// The library's time in a row, and its ratios to the others.

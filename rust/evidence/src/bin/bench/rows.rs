@@ -8,8 +8,9 @@ use evidence::random::{seed, Random};
 /// The largest harvest of the measured requests.
 pub const MOST: u32 = 1_000;
 
-/// How many requests of a random family, and of any with random bounds, stand for it, so that a processor doesn't learn the branches of one.
-const REQUESTS: u64 = 8;
+/// How many requests of a random family, and of any with random bounds, are timed, and how many have their instructions counted.
+pub const TIMED: u64 = 8;
+pub const COUNTED: u64 = 32;
 
 /// A request, its harvests also as the source's algorithms take them.
 pub struct Request {
@@ -53,10 +54,10 @@ impl Row {
         format!("{}, {} capacity, {} frames", self.kind(), self.size.name(), self.frames)
     }
 
-    /// The row's requests: the same in every run with the same seed.
-    pub fn requests(&self) -> Vec<Request> {
+    /// So many of the row's requests, or its only one: the same in every run with the same seed.
+    pub fn requests(&self, some: u64) -> Vec<Request> {
         let random = self.family.is_random() || self.bounded;
-        let count = if random { REQUESTS } else { 1 };
+        let count = if random { some } else { 1 };
         (0..count).map(|i| self.request(i)).collect()
     }
 
