@@ -17,10 +17,11 @@ use numbers::within;
 ghost use mathlib.Core.Path.{_≡_};
 ghost use lib.ListN.{length};
 
-// The curve is 0 below level `from` and `full` above level `last`. It comes to `low` at `from` by `low_step` for a
-// level, and goes on from `high` at `last` by `high_step`; `span` has the knots of these levels. Where no level is
-// between, `last` is just below `from`, and what is said of both ends and of knots says nothing. Level 0 is always
-// below `from`: no frame has a lower level, so nobody asks for the reserve there.
+// The curve is 0 below level `from` and `full` above level `last`; at `from` it is `low`, and at `last` it is `high`. Its
+// knots, in `span`, are at levels from `from` to `last`. It grows by `low_step` for a level up to its first knot, which
+// may be at `from`, and by `high_step` behind its last one, which may be at `last`. Where no level is between, `last` is
+// just below `from`, there is no knot, and the figures of both ends say nothing. Level 0 is never counted and taken for
+// one below `from`: no level is lower, so nobody asks for the reserve there.
 pub struct Curve {
     pub from: u64,
     pub last: u64,
@@ -100,8 +101,8 @@ pub fn widen_high(knots: &mut [u64], curve: Curve, last: u64) -> Curve
     c
 }
 
-// The curve begun behind the last level that needs no more than a frame has. At level x, below knot i, so much of that is
-// left over, and the need grows by `step`.
+// The curve begun behind the last level that needs no more than there is. At level x `left` of that is left, and up to
+// knot i, or to the last level where there is none, the need grows by `step`.
 fn begin(curve: Curve, i: usize, x: u64, left: u64, step: u64) -> Curve {
     let mut c = curve;
     c.from = plus(plus(x, quotient(left, step)), 1);
@@ -111,11 +112,11 @@ fn begin(curve: Curve, i: usize, x: u64, left: u64, step: u64) -> Curve {
     c
 }
 
-// The curve without the levels that need no more than a frame has, which leaves so much over at its first level.
-pub fn narrow_low(knots: &[u64], curve: Curve, over: u64) -> Curve {
+// The curve without the levels that need no more than there is, of which `spare` is left at its first level.
+pub fn narrow_low(knots: &[u64], curve: Curve, spare: u64) -> Curve {
     let mut c = curve;
     let mut x = c.from;
-    let mut left = over;
+    let mut left = spare;
     let mut step = c.low_step;
     let mut i = c.span.first;
     let end = within(c.span.end, knots.len());
@@ -139,8 +140,8 @@ pub fn narrow_low(knots: &[u64], curve: Curve, over: u64) -> Curve {
     c
 }
 
-// The curve ended at the last level that needs less than the ceiling, which leaves so much where a store is full. At level
-// x, above knot i - 1, the need is so much above the ceiling, and it falls by `step`.
+// The curve ended at the last level that needs less than the ceiling, at which `full` would be reserved. At level x the need
+// is `above` the ceiling, and down to knot i - 1, or to the first level where there is none, it falls by `step`.
 fn finish(curve: Curve, i: usize, x: u64, above: u64, step: u64, full: u64) -> Curve {
     let mut c = curve;
     c.last = minus(minus(x, quotient(above, step)), 1);
@@ -150,11 +151,11 @@ fn finish(curve: Curve, i: usize, x: u64, above: u64, step: u64, full: u64) -> C
     c
 }
 
-// The curve without the levels that need the ceiling, above which its last level is by so much.
-pub fn narrow_high(knots: &[u64], curve: Curve, over: u64, full: u64) -> Curve {
+// The curve without the levels that need the ceiling, at which `full` would be reserved; its last level needs `excess` more.
+pub fn narrow_high(knots: &[u64], curve: Curve, excess: u64, full: u64) -> Curve {
     let mut c = curve;
     let mut x = c.last;
-    let mut above = over;
+    let mut above = excess;
     let mut step = c.high_step;
     let mut i = within(c.span.end, knots.len());
     while c.span.first < i {

@@ -1,5 +1,5 @@
 // Knots: levels at which the growth of a curve changes. They stand in rising order in a part of a list that grows and
-// shrinks at both ends; what does not fit into the list is lost, and the guess may be wrong then.
+// shrinks at both ends; where an end of the list is reached, knots are lost, and the guess may be wrong then.
 use numbers::low_bits;
 use numbers::minus;
 use numbers::plus;
@@ -9,7 +9,10 @@ ghost use mathlib.Core.Path.{_≡_};
 ghost use Prim.Native.Nat.{_+_, _-_, _≤_, _<_};
 ghost use lib.ListN.{length};
 
-// The knots are knots[first..end], and so many were moved for others.
+// How many moves of knots there may be: 128 for each frame of the most that a request has.
+const MOVES: u64 = 86016;
+
+// The knots are knots[first..end]; for new ones between them others were moved so often.
 pub struct Span {
     pub first: usize,
     pub end: usize,
@@ -198,11 +201,20 @@ fn sort_down(knots: &mut [u64], first: usize, end: usize, knot: u64) -> usize
     sort_down_singly(knots, first, i, knot)
 }
 
-// The knots with one more, which comes to its place from the nearer end; the same where there is no room for it.
+// Whether knots were moved too often, so that some were left out.
+pub fn is_given_up(s: Span) -> bool {
+    MOVES <= s.moves
+}
+
+// The knots with one more, which comes to its place from the nearer end; the same where an end of the list is reached, or
+// knots were moved too often.
 pub fn with_knot(knots: &mut [u64], span: Span, knot: u64) -> Span
     ensures { λ _. ⌜ length (now (knots .exit)) ≡ length (now (knots .entry)) ⌝ }
 {
     let mut s = span;
+    if is_given_up(s) {
+        return s;
+    }
     if s.first == 0 {
         return s;
     }

@@ -8,10 +8,11 @@
 // and where it is full from a lower one on, it falls to just below that. So a pass from the front finds all levels.
 //
 // Most knots are written and met near an end of the curve. Where many lie between, a new one has many others moved;
-// there is an allowance for that, and where it is used up, the guess is given up.
+// there is an allowance for that, and where it is used up, no more are put in and the guess is given up.
 use super::curve::Curve;
 use super::knots::Span;
 use super::knots::cleared;
+use super::knots::is_given_up;
 use super::pass::pass;
 use super::pass::start_with;
 use certifier::At;
@@ -22,15 +23,11 @@ use numbers::lesser;
 use numbers::low_bits;
 use numbers::minus;
 use numbers::plus;
-use numbers::times;
 use numbers::wide;
 ghost use mathlib.Core.Path.{_≡_};
 ghost use Prim.Native.Nat.{_≤_, _<_};
 ghost use lib.ListN.{length};
 ghost use Rattle.certifier.specs.Says.{Readable};
-
-// How many knots may be moved for each frame.
-const MOVES: u64 = 128;
 
 // A level above all that there is to draw.
 fn roof_of(rule: Rule) -> u64 {
@@ -55,7 +52,9 @@ fn nothing(curve: Curve, roof: u64) -> Curve {
     c
 }
 
-// The curve behind the last frame: the end charge at every level. Its knots are to stand around a middle.
+// The curve behind the last frame: the end charge at every level. Its knots are to stand around a middle. It is counted up to
+// the roof, so that its full store is asked of nobody; with the last frame's it is the same for all frames that have one
+// capacity.
 fn first_curve(end: u64, full: u64, roof: u64, middle: usize) -> Curve {
     let c = Curve {
         from: 1,
@@ -87,7 +86,7 @@ fn note(lows: &mut [u32], highs: &mut [u32], k: usize, low: u64, high: u64)
     highs[k] = low_bits(high) as u32;
 }
 
-// Writes both levels before a frame that takes something over.
+// The curve before a frame that takes something over, with its full store; writes both levels.
 fn note_open(lows: &mut [u32], highs: &mut [u32], k: usize, curve: Curve, f: At) -> Curve
     requires { ⌜ (k < length (now lows)) × (k < length (now highs)) ⌝ }
     ensures { λ _. ⌜ (length (now (lows .exit)) ≡ length (now (lows .entry))) ×
@@ -99,7 +98,7 @@ fn note_open(lows: &mut [u32], highs: &mut [u32], k: usize, curve: Curve, f: At)
     c
 }
 
-// Writes the level of a frame that takes nothing over: nothing is reserved before it.
+// The curve before a frame that takes nothing over, 0 at every level; writes the frame's level as both.
 fn note_shut(lows: &mut [u32], highs: &mut [u32], k: usize, c: Curve, roof: u64) -> Curve
     requires { ⌜ (k < length (now lows)) × (k < length (now highs)) ⌝ }
     ensures { λ _. ⌜ (length (now (lows .exit)) ≡ length (now (lows .entry))) ×
@@ -170,7 +169,7 @@ fn draw_curve(
         c = next(lows, highs, knots, k, c, f, roof);
     }
     note_first(lows, highs, knots, c, f, start);
-    c.span.moves < times(MOVES, plus(harvest.len() as u64, 1))
+    !is_given_up(c.span)
 }
 
 // The nearest level to one before it between a frame's two.
@@ -202,8 +201,8 @@ fn choose(roof: u32, count: usize, lows: &mut [u32], highs: &[u32])
     }
 }
 
-// Writes the levels at which the curve leaves 0 or becomes full where the levels turn. Says whether it was drawn to
-// its end; `highs` and `knots` are scratch.
+// Writes the levels at which the curve leaves 0 or becomes full where the levels turn. Says whether it was not
+// given up; `highs` and `knots` are scratch.
 pub fn curve_levels(
     rule: Rule,
     harvest: &[u32],

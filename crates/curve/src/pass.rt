@@ -69,7 +69,7 @@ pub struct End {
     pub knot: u64,
 }
 
-// The knot at which a frame's draw begins to grow, if it does below the last level.
+// The knot at which a frame's draw begins to grow, if it grows, and not above the last level only.
 fn knot_at_least(c: Curve, f: At) -> u64 {
     if f.most <= f.least {
         return 0;
@@ -80,7 +80,7 @@ fn knot_at_least(c: Curve, f: At) -> u64 {
     knot(f.least, 1)
 }
 
-// The knot at which a frame's draw stops growing, if it has grown above the first level.
+// The knot at which a frame's draw stops growing, if it grows, and not below the first level only.
 fn knot_at_most(c: Curve, f: At) -> u64 {
     if f.most <= f.least {
         return 0;
@@ -137,7 +137,7 @@ fn high_end(c: Curve, f: At) -> End {
     }
 }
 
-// The knots with two more; 0 is none.
+// The knots with two more; 0 is none. They are put in at one place of the code, so that a compiler puts it into the pass.
 fn with_knots(knots: &mut [u64], span: Span, one: u64, other: u64) -> Span
     ensures { λ _. ⌜ length (now (knots .exit)) ≡ length (now (knots .entry)) ⌝ }
 {

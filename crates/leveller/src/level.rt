@@ -204,7 +204,7 @@ fn nearer(level: u64, d: Drawn, all: u64) -> u64 {
     less(level, plus(over(minus(minus(d.sum, all), 1), d.free), 1))
 }
 
-// The level at which all is drawn, or one that is not so far from it where that is not found in some rounds.
+// The level at which all is drawn, or whatever is reached where that is not found in some rounds.
 fn shared_level(least: &[u32], most: &[u32], all: u64, first: u64) -> u64
     requires { ⌜ length (now most) ≡ length (now least) ⌝ }
 {

@@ -60,7 +60,7 @@ pub fn over(a: u64, n: u64) -> u64 {
     a / n
 }
 
-// What each of n has of a, both cut to their low 32 bits; all of it where there is none.
+// The quotient of the low 32 bits of two numbers; the first of them where the second is 0.
 pub fn quotient(a: u64, n: u64) -> u64 {
     let parts = low_bits(n) as u32;
     let whole = low_bits(a) as u32;
@@ -70,7 +70,7 @@ pub fn quotient(a: u64, n: u64) -> u64 {
     wide(whole / parts)
 }
 
-// What is left of a if each of n has that much, both cut to their low 32 bits; nothing where there is none.
+// The remainder of that division; 0 where the second is 0.
 pub fn remainder(a: u64, n: u64) -> u64 {
     let parts = low_bits(n) as u32;
     let whole = low_bits(a) as u32;

@@ -20,4 +20,4 @@ draw-curve-spec =
     (tie.spec Inv-loop μ-loop (λ c κs. search needs) (λ c. search needs) (λ c κs. search needs)
     (λ c κs. search needs) (λ c κs. search needs) (λ c. search needs) (λ c. search needs) (λ c κs. search needs)
     (λ c κs. search needs) (λ c. search needs) (λ c. search needs) (λ c κs. search needs) (λ c κs. search needs)
-    (λ c κs. search needs) (λ c. search needs) (λ c. search needs) (λ c. search needs) (λ c. search needs))
+    (λ c. search needs) (λ c. search needs) (λ c. search needs) (λ c. search needs))

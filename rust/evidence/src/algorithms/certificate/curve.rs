@@ -8,12 +8,12 @@
 //! full from a lower one on, it falls to just below that. So a pass from the front finds all levels.
 //!
 //! Most knots are written and met near an end of the curve. Where many lie between, a new one has many others moved; there
-//! is an allowance for that, and where it is used up, the guess is given up.
+//! is an allowance for that, and where it is used up, no more are put in and the guess is given up.
 
 use super::frame::{Frame, Frames, TOP};
 
-/// How many knots may be moved for each frame.
-const MOVES: u64 = 128;
+/// How many moves of knots there may be: 128 for each frame of the most that a request has.
+const MOVES: u64 = 86_016;
 
 /// How many frames are few, and how many knots there may be for few frames and for the most that a request has.
 const FEW: usize = 128;
@@ -29,10 +29,11 @@ pub fn knots(frames: usize) -> usize {
     }
 }
 
-/// The curve is 0 below level `from` and `full` above level `last`. It comes to `low` at `from` by `low_step` for a level, and
-/// goes on from `high` at `last` by `high_step`. The knots of these levels are knots[first..end], and `moves` of them were
-/// moved. Where no level is between, `last` is just below `from`, and lows, highs and steps say nothing. Level 0 is always
-/// below `from`: no frame's level is lower, so nobody asks for its reserve.
+/// The curve is 0 below level `from` and `full` above level `last`; at `from` it is `low`, and at `last` it is `high`. Its knots,
+/// knots[first..end], are at levels from `from` to `last`; others were moved for new ones so often. It grows by `low_step` for a
+/// level up to its first knot, which may be at `from`, and by `high_step` behind its last one, which may be at `last`. Where no
+/// level is between, `last` is just below `from`, there is no knot, and the figures of both ends say nothing. Level 0 is never
+/// counted and taken for one below `from`: no level is lower, so nobody asks for the reserve there.
 #[derive(Clone, Copy)]
 struct Curve {
     from: u64,
@@ -115,11 +116,12 @@ fn sort_down(knots: &mut [u64], first: usize, end: usize, knot: u64) -> usize {
     i
 }
 
-/// The curve with one knot more, which comes to its place from the nearer end; the same curve where it has no room.
+/// The curve with one knot more, which comes to its place from the nearer end; the same curve where an end of the list is
+/// reached, or knots were moved too often.
 #[inline(always)]
 fn with_knot(knots: &mut [u64], curve: Curve, knot: u64) -> Curve {
     let mut c = curve;
-    if c.first == 0 || c.end < c.first || knots.len() <= c.end {
+    if MOVES <= c.moves || c.first == 0 || c.end < c.first || knots.len() <= c.end {
         return c;
     }
     if knot < knots[(c.first + c.end) / 2] {
@@ -207,82 +209,85 @@ fn widen_high(knots: &mut [u64], curve: Curve, last: u64) -> Curve {
     c
 }
 
-/// How many levels a need goes on by steps before it has grown by more than so much.
+/// Quotient and remainder of the low 32 bits of two numbers; the first of them and 0 where the second is 0.
 #[inline(always)]
-fn run_of(far: u64, step: u64) -> u64 {
-    u64::from(far as u32 / (step as u32).max(1)) + 1
+fn divided(a: u64, n: u64) -> (u64, u64) {
+    match (a as u32, n as u32) {
+        (whole, 0) => (whole.into(), 0),
+        (whole, parts) => ((whole / parts).into(), (whole % parts).into()),
+    }
 }
 
-/// The curve begun behind the last level that needs no more than a frame has. At level x, below knot i, `short` more would be
-/// needed for that, and the need grows by `step`.
+/// The curve begun behind the last level that needs no more than there is. At level x `left` of that is left, and up to knot i,
+/// or to the last level where there is none, the need grows by `step`.
 #[inline(always)]
-fn begin(curve: Curve, i: usize, x: u64, short: u64, step: u64) -> Curve {
+fn begin(curve: Curve, i: usize, x: u64, left: u64, step: u64) -> Curve {
     let mut c = curve;
-    let run = run_of(short, step);
-    c.from = x.wrapping_add(run);
-    c.low = step.wrapping_mul(run).wrapping_sub(short);
+    let (quotient, remainder) = divided(left, step);
+    c.from = x.wrapping_add(quotient) + 1;
+    c.low = step.wrapping_sub(remainder);
     c.low_step = step;
     c.first = i;
     c
 }
 
-/// The curve without the levels that need no more than a frame has, of which `short` is left at its first level.
+/// The curve without the levels that need no more than there is, of which `spare` is left at its first level.
 #[inline(always)]
-fn narrow_low(knots: &[u64], curve: Curve, short: u64) -> Curve {
+fn narrow_low(knots: &[u64], curve: Curve, spare: u64) -> Curve {
     let mut c = curve;
-    let (mut x, mut short, mut step) = (c.from, short, c.low_step);
+    let (mut x, mut left, mut step) = (c.from, spare, c.low_step);
     let mut i = c.first;
     while i < c.end && i < knots.len() {
         let place = place_of(knots[i]);
         let rise = step.wrapping_mul(place.wrapping_sub(x));
-        if short < rise {
-            return begin(c, i, x, short, step);
+        if left < rise {
+            return begin(c, i, x, left, step);
         }
-        short -= rise;
+        left -= rise;
         x = place;
         step = bent(step, knots[i]);
         i += 1;
     }
-    if short < step.wrapping_mul(c.last.wrapping_sub(x)) {
-        return begin(c, i, x, short, step);
+    if left < step.wrapping_mul(c.last.wrapping_sub(x)) {
+        return begin(c, i, x, left, step);
     }
     c.from = c.last + 1;
     c.first = c.end;
     c
 }
 
-/// The curve ended at the last level that needs less than the ceiling. At level x, above knot i - 1, the need is `over` it, and
-/// it falls by `step`; `full` is what the ceiling leaves.
+/// The curve ended at the last level that needs less than the ceiling, at which `full` would be reserved. At level x the need is
+/// `above` the ceiling, and down to knot i - 1, or to the first level where there is none, it falls by `step`.
 #[inline(always)]
-fn finish(curve: Curve, i: usize, x: u64, over: u64, step: u64, full: u64) -> Curve {
+fn finish(curve: Curve, i: usize, x: u64, above: u64, step: u64, full: u64) -> Curve {
     let mut c = curve;
-    let run = run_of(over, step);
-    c.last = x.wrapping_sub(run);
-    c.high = full.wrapping_add(over).wrapping_sub(step.wrapping_mul(run));
+    let (quotient, remainder) = divided(above, step);
+    c.last = x.wrapping_sub(quotient + 1);
+    c.high = full.wrapping_add(remainder).wrapping_sub(step);
     c.high_step = step;
     c.end = i;
     c
 }
 
-/// The curve without the levels that need the ceiling, which its last level is `over`; `full` is what the ceiling leaves.
+/// The curve without the levels that need the ceiling, at which `full` would be reserved; its last level needs `excess` more.
 #[inline(always)]
-fn narrow_high(knots: &[u64], curve: Curve, over: u64, full: u64) -> Curve {
+fn narrow_high(knots: &[u64], curve: Curve, excess: u64, full: u64) -> Curve {
     let mut c = curve;
-    let (mut x, mut over, mut step) = (c.last, over, c.high_step);
-    let mut i = c.end;
-    while c.first < i && i <= knots.len() {
+    let (mut x, mut above, mut step) = (c.last, excess, c.high_step);
+    let mut i = c.end.min(knots.len());
+    while c.first < i {
         let place = place_of(knots[i - 1]);
         let fall = step.wrapping_mul(x.wrapping_sub(place));
-        if over < fall {
-            return finish(c, i, x, over, step, full);
+        if above < fall {
+            return finish(c, i, x, above, step, full);
         }
-        over -= fall;
+        above -= fall;
         x = place;
         step = unbent(step, knots[i - 1]);
         i -= 1;
     }
-    if over < step.wrapping_mul(x.wrapping_sub(c.from)) {
-        return finish(c, i, x, over, step, full);
+    if above < step.wrapping_mul(x.wrapping_sub(c.from)) {
+        return finish(c, i, x, above, step, full);
     }
     c.last = c.from - 1;
     c.first = c.end;
@@ -473,7 +478,7 @@ fn draw_curve(frames: &impl Frames, roof: u64, lows: &mut [u32], highs: &mut [u3
         lows[0] = (c.from - 1) as u32;
         highs[0] = lows[0];
     }
-    c.moves < MOVES * (count as u64 + 1)
+    c.moves < MOVES
 }
 
 /// Writes the levels over the lowest ones: each is the level before it, or the nearest between its two. A level at the roof
@@ -486,7 +491,7 @@ fn choose(roof: u64, lows: &mut [u32], highs: &[u32]) {
     }
 }
 
-/// Writes the levels at which the curve leaves 0 or becomes full where the levels turn. Says whether it was drawn to its end;
+/// Writes the levels at which the curve leaves 0 or becomes full where the levels turn. Says whether it was not given up;
 /// `highs` and `knots` are scratch.
 pub fn curve(frames: &impl Frames, levels: &mut [u32], highs: &mut [u32], knots: &mut [u64]) -> bool {
     let roof = frames.energy() + 1;

@@ -51,7 +51,7 @@ const AIMS: [Aim; 7] = [
         figure: |line, _, measure| measure.beside.filter(|_| line.row.frames == MAX_FRAMES),
     },
     Aim {
-        what: "slowest request of the most frames at most 100 us",
+        what: "slowest row of the most frames at most 100 us",
         limit: 100.0,
         figure: |line, _, measure| (line.row.frames == MAX_FRAMES).then_some(measure.micros),
     },

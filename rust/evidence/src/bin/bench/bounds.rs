@@ -3,7 +3,7 @@
 
 use crate::aims::GROWTH;
 use crate::contenders::{Call, CALLS};
-use crate::instructions::Counts;
+use crate::instructions::{Counts, COUNTED};
 use crate::measured::Measured;
 use crate::rows::{rows, Row};
 use evidence::families::FRAMES;
@@ -70,7 +70,7 @@ fn lines(what: &str, call: Call, frames: usize, figure: impl Fn(&Row) -> Option<
 /// How each family with bounds grows from half a week to a week, over all capacities, the worst first.
 fn growths(call: Call, counts: &Counts) -> Option<Vec<(f64, String)>> {
     let families = |frames| Some(sums(frames, |row| counts.count(call, row))?.1);
-    let (half_week, week) = (families(FRAMES[1])?, families(FRAMES[2])?);
+    let (half_week, week) = (families(COUNTED[0])?, families(COUNTED[1])?);
     let grown = half_week.into_iter().zip(week);
     let mut growths: Vec<(f64, String)> = grown.map(|((name, a), (_, b))| (b.with / a.with, name)).collect();
     growths.sort_by(|a, b| b.0.total_cmp(&a.0));
@@ -106,7 +106,7 @@ fn head() -> String {
 pub fn counted(counts: &Counts) -> String {
     let mut text = head();
     for call in CALLS {
-        for frames in FRAMES {
+        for frames in COUNTED {
             text += &lines("instructions", call, frames, |row| counts.count(call, row));
         }
         text += &growth_lines(call, counts);

@@ -2,13 +2,13 @@
 
 use crate::beside::Beside;
 use crate::contenders::{library, other, Call, CALLS};
-use crate::rows::{self, rows, Row};
+use crate::rows::{rows, Row, COUNTED as REQUESTS};
 use evidence::families::FRAMES;
 use std::fmt::Write;
 use std::process::{Command, Stdio};
 
 /// The numbers of frames that are counted, half a week and a week: the growth is from the first to the second.
-const COUNTED: [usize; 2] = [FRAMES[1], FRAMES[2]];
+pub const COUNTED: [usize; 2] = [FRAMES[1], FRAMES[2]];
 
 /// Has the C library clear a list by stores, not by one repeated instruction, which callgrind counts once for each byte.
 const LISTS_BY_WORDS: &str = "glibc.cpu.x86_rep_stosb_threshold=1000000";
@@ -23,7 +23,7 @@ pub fn play(call: Call, beside: Option<&Beside>) {
         None => library(call),
     };
     for row in rows(&COUNTED) {
-        row.requests(rows::COUNTED).iter().for_each(|request| run(request));
+        row.requests(REQUESTS).iter().for_each(|request| run(request));
     }
 }
 
@@ -66,11 +66,11 @@ fn means(call: Call, beside: Option<&Beside>) -> Result<Vec<u64>, String> {
     let each = each(call, beside)?;
     let mut rest = each.iter().copied();
     let mut mean = |row: &Row| {
-        let count = row.requests(rows::COUNTED).len();
+        let count = row.requests(REQUESTS).len();
         rest.by_ref().take(count).sum::<u64>() / count as u64
     };
     let means = rows(&COUNTED).iter().map(&mut mean).collect();
-    let expected: usize = rows(&COUNTED).iter().map(|row| row.requests(rows::COUNTED).len()).sum();
+    let expected: usize = rows(&COUNTED).iter().map(|row| row.requests(REQUESTS).len()).sum();
     if each.len() != expected {
         return Err(format!("callgrind counted {} calls, not {expected}", each.len()));
     }

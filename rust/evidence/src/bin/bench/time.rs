@@ -21,7 +21,7 @@ pub fn black_box<T>(value: T) -> T {
     }
 }
 
-/// Microseconds of a call: their mean over a round.
+/// Microseconds of a call: the mean of those of a round.
 fn round(mut call: impl FnMut()) -> f64 {
     let begin = Instant::now();
     let mut done = 0;
