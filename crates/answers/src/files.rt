@@ -8,7 +8,7 @@ use wordfile::{Header, ReadAnswer, WriteAnswer};
 
 // The figures of the file, and the number of its harvests.
 #[repr(C)]
-#[derive(Drop)]
+#[derive(Clone, Copy)]
 pub struct EnergyReadAnswer {
     pub refusal: Refusal,
     pub header: Header,
@@ -16,7 +16,7 @@ pub struct EnergyReadAnswer {
 
 // The number of bytes written.
 #[repr(C)]
-#[derive(Drop)]
+#[derive(Clone, Copy)]
 pub struct EnergyWriteAnswer {
     pub refusal: Refusal,
     pub bytes: usize,

@@ -8,7 +8,7 @@ use model::Refusal;
 
 // The sums of the three curves.
 #[repr(C)]
-#[derive(Drop)]
+#[derive(Clone, Copy)]
 pub struct EnergyGradeAnswer {
     pub refusal: Refusal,
     pub sums: Sums,

@@ -1,5 +1,7 @@
 // What C gets for the answer of each entry. C knows no enum that holds values, so each is a struct: the refusal,
 // number 0 for none, and values, zeros if refused. A function makes it of the entry's answer.
+#![tactic(auto)]
+
 mod files;
 mod grade;
 mod needed;

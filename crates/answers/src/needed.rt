@@ -8,7 +8,7 @@ use planner::needed::NeededAnswer;
 
 // The needed capacity.
 #[repr(C)]
-#[derive(Drop)]
+#[derive(Clone, Copy)]
 pub struct EnergyNeededAnswer {
     pub refusal: Refusal,
     pub capacity: u64,

@@ -8,7 +8,7 @@ use planner::plan::PlanAnswer;
 
 // The refusal alone: the plan is in the budgets.
 #[repr(C)]
-#[derive(Drop)]
+#[derive(Clone, Copy)]
 pub struct EnergyPlanAnswer {
     pub refusal: Refusal,
 }

@@ -8,7 +8,7 @@ use rest::RestAnswer;
 
 // Whether the rest is short, 1 if so, and the missing amount.
 #[repr(C)]
-#[derive(Drop)]
+#[derive(Clone, Copy)]
 pub struct EnergyRestAnswer {
     pub refusal: Refusal,
     pub is_short: u32,

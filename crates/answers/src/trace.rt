@@ -8,7 +8,7 @@ use tracer::TraceAnswer;
 
 // The verdict, and the frame that it names; 0 where it names none.
 #[repr(C)]
-#[derive(Drop)]
+#[derive(Clone, Copy)]
 pub struct EnergyTraceAnswer {
     pub refusal: Refusal,
     pub verdict: u32,

@@ -6,7 +6,7 @@ use certifier::{Rule, frame_at, gap};
 use numbers::{at, lesser, plus};
 
 // What a frame needs at a level and at one more; both alike where no level was tried.
-#[derive(Drop)]
+#[derive(Clone, Copy)]
 pub struct Needs {
     pub level: u64,
     pub need: u64,
@@ -15,7 +15,7 @@ pub struct Needs {
 
 // Frames from..to that have the same bounds on their levels, the room of the first of them, the reserve behind the
 // last, how often they were weighed, and what the first needed at the level tried last.
-#[derive(Drop)]
+#[derive(Clone, Copy)]
 pub struct Block {
     pub from: usize,
     pub to: usize,

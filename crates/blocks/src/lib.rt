@@ -1,5 +1,7 @@
 // The blocks of the splitting: frames in a row that can have the same levels, a level to try in them, and what
 // weighing it shows.
+#![tactic(auto)]
+
 mod block;
 mod trial;
 mod weigh;

@@ -7,7 +7,7 @@ use certifier::{At, Rule, frame_at};
 use numbers::{TOP, greater, less, lesser, minus, over, plus, within};
 
 // What frames have and take, how many of them are free, and the narrowest bounds of those.
-#[derive(Drop)]
+#[derive(Clone, Copy)]
 pub struct Shared {
     pub have: u64,
     pub taken: u64,

@@ -21,7 +21,7 @@ const NOT_ABOVE: u64 = 4;
 const OPEN: u64 = 5;
 
 // What a frame needs at a level and at one more, and what must come into it for that.
-#[derive(Drop)]
+#[derive(Clone, Copy)]
 pub struct Weighed {
     pub need: u64,
     pub more: u64,

@@ -9,7 +9,7 @@ use numbers::{TOP, less, lesser, wide};
 // What the frames from some frame on reserve: at the level of that frame and at one level more, and a charge that no
 // reserve is above. `after` and `above` are what both levels reserve after that frame; `above` is for the contract
 // alone.
-#[derive(Drop)]
+#[derive(Clone, Copy)]
 pub struct Weight {
     pub level: u64,
     pub low: u64,
@@ -21,7 +21,7 @@ pub struct Weight {
 }
 
 // What a level and one level more reserve after a frame.
-#[derive(Drop)]
+#[derive(Clone, Copy)]
 pub struct Turned {
     pub low: u64,
     pub high: u64,

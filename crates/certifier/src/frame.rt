@@ -10,7 +10,7 @@ use numbers::{greater, less, lesser, wide};
 
 // What turns harvests, leasts and mosts into frames, and the charge to end with. No budget is above `energy`, the
 // most of a frame that has no upper end.
-#[derive(Drop)]
+#[derive(Clone, Copy)]
 pub struct Rule {
     pub capacity: u64,
     pub end: u64,
@@ -18,7 +18,7 @@ pub struct Rule {
 }
 
 // A frame of the request.
-#[derive(Drop)]
+#[derive(Clone, Copy)]
 pub struct At {
     pub inflow: u64,
     pub ceiling: u64,

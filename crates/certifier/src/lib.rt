@@ -6,6 +6,8 @@
 // Energies": consumption rises only where the store is empty and falls only where it is full. What differs: budgets
 // are whole numbers, so a frame spends its level or one unit more, and frames may have a drain, a least and a most;
 // and what the source shows of the result of its own algorithm is tested here, on levels of which nothing is known.
+#![tactic(auto)]
+
 mod backward;
 mod forward;
 mod frame;

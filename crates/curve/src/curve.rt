@@ -10,7 +10,7 @@ use numbers::{minus, plus, quotient, remainder, times, within};
 // may be at `from`, and by `high_step` behind its last one, which may be at `last`. Where no level is between, `last` is
 // just below `from`, there is no knot, and the figures of both ends say nothing. Level 0 is never counted and taken for
 // one below `from`: no level is lower, so nobody asks for the reserve there.
-#[derive(Drop)]
+#[derive(Clone, Copy)]
 pub struct Curve {
     pub from: u64,
     pub last: u64,

@@ -9,7 +9,7 @@ use std::num::{wrapping_add_usize, wrapping_sub_usize};
 const MOVES: u64 = 86016;
 
 // The knots are knots[first..end]; for new ones between them others were moved so often.
-#[derive(Drop)]
+#[derive(Clone, Copy)]
 pub struct Span {
     pub first: usize,
     pub end: usize,

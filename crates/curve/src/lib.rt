@@ -1,4 +1,6 @@
 // The guess for any frames: the reserve as a curve over the levels, kept by its knots.
+#![tactic(auto)]
+
 mod curve;
 mod knots;
 mod levels;

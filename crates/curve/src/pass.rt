@@ -54,7 +54,7 @@ fn widen(knots: &mut [u64], curve: Curve, f: At, has: u64, roof: u64) -> Curve
 
 // An end of the curve in a frame: what is needed at that level, by how much it grows there, and the knot that the frame
 // brings; 0 is none.
-#[derive(Drop)]
+#[derive(Clone, Copy)]
 pub struct End {
     pub need: u64,
     pub step: u64,

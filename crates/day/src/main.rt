@@ -2,6 +2,8 @@
 // is planned by the forecast. The sun gives other harvests, and the mills use their budget, or what is there if that
 // is less. Each frame has two lines: the plan of the rest; then its number, harvest, use, the charge after it and the
 // loss so far. The last line has the totals.
+#![tactic(auto)]
+
 use model::Figures;
 use model::limits::NO_UPPER_END;
 use shift::Shift;

@@ -15,7 +15,7 @@ use shift::{Shift, ShiftAnswer};
 
 // The part of the budgets that is left: its first entry's index, and its length.
 #[repr(C)]
-#[derive(Drop)]
+#[derive(Clone, Copy)]
 pub struct EnergyPartAnswer {
     pub refusal: Refusal,
     pub from: usize,

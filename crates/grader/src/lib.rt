@@ -1,4 +1,6 @@
 // Grading: what a list of budgets is worth on each of the three house curves.
+#![tactic(auto)]
+
 ghost use Rattle.std.specs.Prelude.{◌≡◌, ◌≤◌, length};
 ghost use Rattle.model.specs.Limits.{max_frames};
 ghost use Rattle.grader.specs.Says.{sums_of, GradeSays};
@@ -8,7 +10,7 @@ mod lists;
 
 // The sums over a list of budgets on curves 0, 1 and 2.
 #[repr(C)]
-#[derive(Drop)]
+#[derive(Clone, Copy)]
 pub struct Sums {
     pub curve0: u64,
     pub curve1: u64,
@@ -16,7 +18,7 @@ pub struct Sums {
 }
 
 // What grading answers.
-#[derive(Drop)]
+#[derive(Clone, Copy)]
 pub enum GradeAnswer {
     Worth(Sums),
     Refused(model::Refusal),

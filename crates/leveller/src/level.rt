@@ -141,7 +141,7 @@ fn is_hopeless(
 }
 
 // What frames draw at a level, and how many of them would draw more at one level more.
-#[derive(Drop)]
+#[derive(Clone, Copy)]
 pub struct Drawn {
     pub sum: u64,
     pub free: u64,

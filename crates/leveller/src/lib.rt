@@ -7,6 +7,8 @@
 // or overflow. What differs: its levels are the slopes of a taut string, which is drawn in linear time (crates
 // `sight` and `string`) and not in quadratic time; where frames have bounds, the reserves of all levels are kept as a
 // curve (`curve`), or frames are split at levels (`blocks`, `splitting`); and levels are whole numbers.
+#![tactic(auto)]
+
 mod bounded;
 mod level;
 mod peak;

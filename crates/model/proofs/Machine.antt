@@ -22,7 +22,7 @@ widen n h = to_z_pos w64 (omega arith)
 
 -- a number in range, stored and read back
 pub back : (x : ℤ) → mag x < 2 ^ 63 → to_z w64 (of_z w64 x) ≡ x
-back x h = to_z-of_z (record { sfits = h })
+back x h = to_z-of_z {w = w64} (record { sfits = h })
 
 -- the size of a number by its parts
 mag_is : (a : ℤ) → mag a ≡ up a + (down a - 1)

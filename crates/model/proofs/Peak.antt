@@ -1,7 +1,7 @@
 -- Without bounds and without limit the plan requires, after each frame, just the charge that it carries; so the needed
 -- capacity is a highest charge. With a most it can be lower: what is carried need not be required.
 use mathlib.Core.Path.{◌≡◌, refl, ap₂, ◌∙◌}
-use mathlib.Core.Logic.{◌⊎◌, ⊎_elim}
+use mathlib.Core.Logic.{⊎_elim}
 use mathlib.Core.List.{List, [], ◌∷◌}
 use Prim.Native.Nat.{ℕ, ◌+◌, ◌-◌, ◌≤◌, ◌<◌, min, max}
 use native.Mathlib.Nat.{le_refl}

@@ -1,7 +1,6 @@
 -- The plan is feasible whenever anything is, serves most at every level, takes more first, and carries the lowest
 -- charges.
-use mathlib.Core.Path.{refl}
-use mathlib.Core.Logic.{◌⊎◌, ⊎_elim}
+use mathlib.Core.Logic.{⊎_elim}
 use mathlib.Core.List.{List, [], ◌∷◌}
 use Prim.Native.Nat.{ℕ, suc, ◌+◌, ◌-◌, ◌≤◌, ◌<◌, min, max}
 use native.Mathlib.Nat.{le_refl}
@@ -9,7 +8,7 @@ use native.Mathlib.Omega.{arith}
 use Rattle.model.specs.Frames.{Frame, room, left, Allowed, Feasible, reserve, budget, plan, served}
 use Rattle.model.proofs.Order.{le_or_lt}
 use Rattle.model.proofs.Feasibility.{more}
-use Rattle.model.proofs.Reserve.{Serving, poor, poor_times, rich, unit_times}
+use Rattle.model.proofs.Reserve.{Serving, poor_times, rich, unit_times}
 use Rattle.model.proofs.Budget.{IsLargest, budget_is}
 
 within : (b lo hi d r c : ℕ) → b ≤ max lo (min hi (r - d)) → lo ≤ c → c ≤ hi → d + c ≤ r → (b ≤ hi) × (d + b ≤ r)

@@ -1,5 +1,5 @@
 -- Reward tables, and which assignments are best.
-use Rattle.std.specs.Prelude.{◌≡◌, ◌⊎◌, Bool, true, false, ◌&&◌, ◌||◌, List, [], ◌∷◌, ℤ, pos, ◌+ℤ◌, ◌-ℤ◌, ◌≤ℤ◌, ℕ, suc, ◌+◌, ◌≤◌, ◌<◌, eqb, ltb}
+use Rattle.std.specs.Prelude.{◌≡◌, ◌⊎◌, Bool, true, false, ◌&&◌, ◌||◌, List, [], ◌∷◌, ℤ, pos, ◌+ℤ◌, ◌-ℤ◌, ◌≤ℤ◌, ℕ, suc, ◌≤◌, ◌<◌, eqb, ltb}
 use Rattle.model.specs.Request.{Request, most_energy, with_capacity}
 use Rattle.model.specs.Charge.{feasible, feasible_unlimited}
 

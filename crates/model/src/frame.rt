@@ -5,7 +5,7 @@ ghost use Rattle.model.specs.Charge.{at_hand, frame_end};
 ghost use Rattle.model.specs.Trace.{traced_end};
 
 // What a frame ends with: the charge, which may be below zero, and what was lost because the store was full.
-#[derive(Drop)]
+#[derive(Clone, Copy)]
 pub struct TracedEnd {
     pub charge: i64,
     pub lost: u64,

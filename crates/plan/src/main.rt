@@ -1,6 +1,8 @@
 // Prints the plan of the request in a word file: the file on standard input, the listing on standard output. A read
 // or a write that fails is told on standard error with the system's reason; after a failed read nothing goes to
 // standard output.
+#![tactic(auto)]
+
 ghost use Rattle.std.specs.Prelude.{◌≡◌, List, ℕ, ◌-◌, ◌≤◌, length, take};
 ghost use Rattle.printed.specs.Text.{listing_bytes, listing};
 ghost use Rattle.plan.specs.Read.{BeginsWith, ReadWithin};
@@ -13,7 +15,7 @@ use printed::LISTING_BYTES;
 const INPUT_BYTES: usize = MAX_FILE_BYTES + 1;
 
 // What reading brought: so many bytes, or a failure.
-#[derive(Drop)]
+#[derive(Clone, Copy)]
 pub enum Input {
     Bytes(usize),
     Failed,

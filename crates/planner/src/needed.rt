@@ -11,7 +11,7 @@ use numbers::greater;
 use request::{is_none, needed_refusal, sum};
 
 // The needed capacity, or the refusal of the request.
-#[derive(Drop)]
+#[derive(Clone, Copy)]
 pub enum NeededAnswer {
     Capacity(u64),
     Refused(Refusal),

@@ -10,7 +10,7 @@ use model::{Figures, Refusal};
 use request::{is_none, plan_refusal, sum};
 
 // The budgets are the plan, or the request is refused and the budgets keep their values.
-#[derive(Drop)]
+#[derive(Clone, Copy)]
 pub enum PlanAnswer {
     Planned,
     Refused(Refusal),

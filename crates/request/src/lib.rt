@@ -1,6 +1,8 @@
 // The refusals that several entries share, as code over lent lists: each function answers what model's definition of
 // that refusal says. All of it is inner: the entries of other crates call it. First the whole order of planning, the
 // needed capacity, tracing and a shift's start, then its parts.
+#![tactic(auto)]
+
 mod bounds;
 mod entries;
 mod figures;

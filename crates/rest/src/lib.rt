@@ -1,4 +1,6 @@
 // The rest of a shift: planned anew at any time, and the part of the budgets that is left.
+#![tactic(auto)]
+
 ghost use Rattle.rest.specs.Rest.{lists};
 ghost use Rattle.rest.specs.Says.{RestSays, PartSays};
 
@@ -10,7 +12,7 @@ mod fill;
 mod refusals;
 
 // What planning the rest answers; short comes with what zero budgets miss of the end charge, which may be nothing.
-#[derive(Drop)]
+#[derive(Clone, Copy)]
 pub enum RestAnswer {
     Planned,
     Short(u64),

@@ -1,4 +1,6 @@
 // The plainest way to the plan, for levels that are not certified: in every frame the budget is searched by halves.
+#![tactic(auto)]
+
 mod scan;
 mod search;
 

@@ -8,7 +8,7 @@ use certifier::{At, Rule, frame_at, has};
 use numbers::lesser;
 
 // The greatest budget accepted so far and the greatest not refused yet.
-#[derive(Drop)]
+#[derive(Clone, Copy)]
 pub struct Range {
     pub good: u64,
     pub top: u64,

@@ -1,5 +1,7 @@
 // The running shift: started from a valid, reachable request, and recorded frame by frame. Its rest is planned in
 // crate rest, which also asks for refusals 22 and 20.
+#![tactic(auto)]
+
 ghost use Rattle.std.specs.Prelude.{◌≡◌, true, length};
 ghost use Rattle.model.specs.Request.{bounded_request};
 ghost use Rattle.model.specs.Refusals.{is_none};
@@ -17,7 +19,7 @@ pub use refusals::{done_refusal, shift_refusal};
 
 // What a shift was started from: the number of frames, capacity, start charge and end charge.
 #[repr(C)]
-#[derive(Drop)]
+#[derive(Clone, Copy)]
 pub struct Terms {
     pub frames: u32,
     pub capacity: u32,
@@ -27,7 +29,7 @@ pub struct Terms {
 
 // Sums over the recorded frames.
 #[repr(C)]
-#[derive(Drop)]
+#[derive(Clone, Copy)]
 pub struct Totals {
     pub harvested: u64,
     pub used: u64,
@@ -36,7 +38,7 @@ pub struct Totals {
 
 // How a shift stands: the number of frames recorded, the charge, and the totals.
 #[repr(C)]
-#[derive(Drop)]
+#[derive(Clone, Copy)]
 pub struct Present {
     pub recorded: u32,
     pub charge: u32,
@@ -45,7 +47,7 @@ pub struct Present {
 
 // A shift's record.
 #[repr(C)]
-#[derive(Drop)]
+#[derive(Clone, Copy)]
 pub struct Shift {
     pub terms: Terms,
     pub now: Present,
@@ -53,7 +55,7 @@ pub struct Shift {
 
 // What starting and recording answer: the refusal, number 0 if there is none, and the shift.
 #[repr(C)]
-#[derive(Drop)]
+#[derive(Clone, Copy)]
 pub struct ShiftAnswer {
     pub refusal: Refusal,
     pub shift: Shift,

@@ -1,4 +1,6 @@
 // The first part of the guess by the taut string: it is drawn by sight, as far as that is cheap.
+#![tactic(auto)]
+
 mod sight;
 mod slope;
 

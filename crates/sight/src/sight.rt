@@ -22,7 +22,7 @@ const TURN: u64 = 16;
 
 // The last turn of the string that is sure: before which frame, its height as the upper curve counts and as the lower
 // one does, and what came in before it. The frames before it have their levels.
-#[derive(Drop)]
+#[derive(Clone, Copy)]
 pub struct Apex {
     pub frame: usize,
     pub above: u64,
@@ -32,7 +32,7 @@ pub struct Apex {
 
 // A bound of the sight: the way from the apex to a point of a curve, how far that curve is off the line now, and how
 // far it is where the line meets the other curve; both times the run.
-#[derive(Drop)]
+#[derive(Clone, Copy)]
 pub struct Bound {
     pub rise: u64,
     pub run: u64,
@@ -42,7 +42,7 @@ pub struct Bound {
 
 // The next turn: the way to it, of no frame where it is not in sight, whether it is a point of the upper curve, and
 // how many frames were looked at.
-#[derive(Drop)]
+#[derive(Clone, Copy)]
 pub struct Turn {
     pub rise: u64,
     pub run: u64,

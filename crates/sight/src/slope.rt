@@ -2,7 +2,7 @@
 use numbers::times;
 
 // How steep a straight way is: so much up in so many frames.
-#[derive(Drop)]
+#[derive(Clone, Copy)]
 pub struct Slope {
     pub rise: u64,
     pub run: u64,

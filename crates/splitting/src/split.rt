@@ -21,7 +21,7 @@ use numbers::{TOP, at, fill, greater, less, lesser, plus, put};
 const TURNS: u64 = 1000000;
 
 // The lowest and the highest level of a frame.
-#[derive(Drop)]
+#[derive(Clone, Copy)]
 pub struct Bounds {
     pub low: u64,
     pub high: u64,

@@ -6,7 +6,7 @@ use numbers::{at, fill, minus, over};
 use sight::{Slope, steeper};
 
 // A point of a curve: before which frame, and how high.
-#[derive(Drop)]
+#[derive(Clone, Copy)]
 pub struct Point {
     pub frame: usize,
     pub height: u64,

@@ -17,7 +17,7 @@ use std::num::wrapping_add_usize;
 // The string as far as it is sure, and the parts of the two lists that are the chains behind it: the frames before
 // the apex have their levels; `above` and `below` are the apex's height as the upper curve counts, and as the lower
 // one does, the capacity more; the chains are upper[upper_first..upper_end] and lower[lower_first..lower_end].
-#[derive(Drop)]
+#[derive(Clone, Copy)]
 pub struct Funnel {
     pub apex: usize,
     pub above: u64,

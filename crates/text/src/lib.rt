@@ -1,5 +1,7 @@
 // Text in lent lists, piece by piece: each function goes on behind what is written, writes what there is room for,
 // and answers the place behind it.
+#![tactic(auto)]
+
 ghost use Rattle.std.specs.Prelude.{[], ◌∷◌};
 ghost use Rattle.text.specs.Decimal.{decimal};
 ghost use Rattle.text.specs.Line.{line_of};

@@ -1,5 +1,7 @@
 // The tracer: the charge after each frame of any supplied budgets, below zero included, what each frame loses, and the
 // verdict on the budgets.
+#![tactic(auto)]
+
 ghost use Rattle.model.specs.Request.{request};
 ghost use Rattle.tracer.specs.Says.{TraceSays};
 
@@ -11,7 +13,7 @@ mod verdicts;
 pub use recurrence::fill;
 
 // What the tracer answers. A frame below zero has its number, counted from 1.
-#[derive(Drop)]
+#[derive(Clone, Copy)]
 pub enum TraceAnswer {
     Feasible,
     EndTooLow,

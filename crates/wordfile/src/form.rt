@@ -25,7 +25,7 @@ const NO_MARK: u32 = 6;
 pub const FIGURE_COUNT: usize = 3;
 
 // The words so far: how many figures, and how many frames; and the lowest mark of a bound that may follow.
-#[derive(Drop)]
+#[derive(Clone, Copy)]
 pub struct State {
     pub figures: usize,
     pub frames: usize,
@@ -33,7 +33,7 @@ pub struct State {
 }
 
 // What a word does to the machine: it goes on, it ends, or the word breaks the form.
-#[derive(Drop)]
+#[derive(Clone, Copy)]
 pub enum Step {
     On(State),
     End,
@@ -41,7 +41,7 @@ pub enum Step {
 }
 
 // Where the form ends: closed after so many words with so many frames, or broken at a word's place.
-#[derive(Drop)]
+#[derive(Clone, Copy)]
 pub enum Form {
     Closed(usize, usize),
     Broken(usize),

@@ -1,4 +1,6 @@
 // Word files: a request as 32-bit words, read into lent lists and written into a lent list of bytes.
+#![tactic(auto)]
+
 mod form;
 mod reader;
 mod writer;

@@ -17,14 +17,14 @@ use words::{amount, kind, mark, nth, value};
 
 // The figures of a request, and the number of its frames.
 #[repr(C)]
-#[derive(Drop)]
+#[derive(Clone, Copy)]
 pub struct Header {
     pub figures: Figures,
     pub frames: usize,
 }
 
 // What reading a file answers.
-#[derive(Drop)]
+#[derive(Clone, Copy)]
 pub enum ReadAnswer {
     Accepted(Header),
     Refused(Refusal),

@@ -18,7 +18,7 @@ use request::{bounds_refusal, figures_refusal, first_of, is_none, lent_refusal, 
 use words::{put, put_bound};
 
 // What writing a file answers.
-#[derive(Drop)]
+#[derive(Clone, Copy)]
 pub enum WriteAnswer {
     Written(usize),
     Refused(Refusal),
