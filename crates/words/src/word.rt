@@ -66,6 +66,7 @@ fn join(a: u8, b: u8, c: u8, d: u8) -> u32
 }
 
 // Word number i of a list of bytes.
+#[tactic(auto, using(crate::proofs::Bytes::words_at))]
 pub fn nth(bytes: &[u8], i: usize) -> u32
     requires { i < length bytes.now / 4 }
     ensures { result ≡ get_or (words_of bytes.now) i 0 }
@@ -75,6 +76,7 @@ pub fn nth(bytes: &[u8], i: usize) -> u32
 }
 
 // Puts the four bytes of a word into a list.
+#[tactic(auto, using(crate::proofs::Words::put_is))]
 fn put_word(word: u32, out: &mut [u8], at: usize)
     requires { at + 4 ≤ length out.old }
     ensures { out.new ≡ over_at at (word_bytes word) out.old }
