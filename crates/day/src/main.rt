@@ -7,27 +7,20 @@
 use model::Figures;
 use model::limits::NO_UPPER_END;
 use shift::Shift;
+use std::io;
 
 // Writes a number and what follows it.
-fn put(n: u64, end: &[u8]) {
-    io::print_decimal(libc::STDOUT_FILENO, n);
-    io::write_all(libc::STDOUT_FILENO, end);
+fn put(rt: &impl Print, n: u64, end: &str) -> io::Result<()> {
+    print!(rt; "{n}{end}")
 }
 
 // Writes a list of budgets as a line.
-fn list(budgets: &[u32]) {
-    io::write_all(libc::STDOUT_FILENO, b"plan");
-    let mut i = 0;
-    while i < budgets.len() {
-        io::write_all(libc::STDOUT_FILENO, b" ");
-        io::print_decimal(libc::STDOUT_FILENO, wide(budgets[i]));
-        i += 1;
+fn list(rt: &impl Print, budgets: &[u32]) -> io::Result<()> {
+    rt.print("plan")?;
+    for budget in budgets {
+        print!(rt; " {budget}")?;
     }
-    io::write_all(libc::STDOUT_FILENO, b"\n");
-}
-
-fn wide(n: u32) -> u64 {
-    n as u64
+    rt.print("\n")
 }
 
 // The budget, or what is there if that is less.
@@ -41,59 +34,59 @@ fn use_of(budget: u32, charge: u32, harvest: u32) -> u32 {
 }
 
 // The frame's line.
-fn line(harvest: u32, used: u32, s: Shift) {
-    put(s.now.recorded as u64, b" ");
-    put(harvest as u64, b" ");
-    put(used as u64, b" ");
-    put(s.now.charge as u64, b" ");
-    put(s.now.totals.lost, b"\n");
+fn line(rt: &impl Print, harvest: u32, used: u32, s: Shift) -> io::Result<()> {
+    put(rt, s.now.recorded as u64, " ")?;
+    put(rt, harvest as u64, " ")?;
+    put(rt, used as u64, " ")?;
+    put(rt, s.now.charge as u64, " ")?;
+    put(rt, s.now.totals.lost, "\n")
 }
 
 // One frame: the rest planned, the frame recorded, and the shift as it stands after it.
 fn frame(
+    rt: &impl Print,
     s: Shift,
     forecast: &[u32],
     least: &[u32],
     most: &[u32],
     sun: u32,
     budgets: &mut [u32],
-) -> Shift {
+) -> io::Result<Shift> {
     rest::plan_rest(s, forecast, least, most, budgets);
     let mut number = 0;
     let mut p = 0;
     let part = rest::rest_part(s, budgets, &mut number, &mut p);
     if part.len() == 0 {
-        return s;
+        return Ok(s);
     }
-    list(part);
+    list(rt, part)?;
     let used = use_of(part[0], s.now.charge, sun);
     let answer = s.record(sun, used);
     let t = answer.shift;
-    line(sun, used, t);
-    t
+    line(rt, sun, used, t)?;
+    Ok(t)
 }
 
 // All frames, and the totals.
 fn run(
+    rt: &impl Print,
     first: Shift,
     forecast: &[u32],
     least: &[u32],
     most: &[u32],
     sun: &[u32],
     budgets: &mut [u32],
-) {
+) -> io::Result<()> {
     let mut s = first;
-    let mut i = 0;
-    while i < sun.len() {
-        s = frame(s, forecast, least, most, sun[i], budgets);
-        i += 1;
+    for &harvest in sun {
+        s = frame(rt, s, forecast, least, most, harvest, budgets)?;
     }
-    put(s.now.totals.harvested, b" ");
-    put(s.now.totals.used, b" ");
-    put(s.now.totals.lost, b"\n");
+    put(rt, s.now.totals.harvested, " ")?;
+    put(rt, s.now.totals.used, " ")?;
+    put(rt, s.now.totals.lost, "\n")
 }
 
-fn main() {
+fn main(rt: HostRuntime) -> io::Result<()> {
     let forecast = [6u32, 4, 0, 0, 5, 5];
     let least = [0u32; 6];
     let most = [NO_UPPER_END; 6];
@@ -106,6 +99,15 @@ fn main() {
     };
     let answer = shift::start(figures, &forecast, &least, &most);
     if answer.refusal.number == 0 {
-        run(answer.shift, &forecast, &least, &most, &sun, &mut budgets);
+        run(
+            &rt,
+            answer.shift,
+            &forecast,
+            &least,
+            &most,
+            &sun,
+            &mut budgets,
+        )?;
     }
+    Ok(())
 }

@@ -10,4 +10,4 @@ BeginsWith s list n = take (length list) s ≡ take n list
 -- what was read lies in a list of so many bytes
 abbrev pub ReadWithin : declared.Input → ℕ → Type 0
 ReadWithin (Bytes n) room = n ≤ room
-ReadWithin Failed room = Unit {0}
+ReadWithin (Failed _) room = Unit {0}
