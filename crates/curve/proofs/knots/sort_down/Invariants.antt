@@ -1,0 +1,9 @@
+-- Four knots lie in the list, which keeps its length, and each is passed once.
+use Rattle.std.proofs.Common.{◌≡◌, ◌≤◌, length}
+use Rattle.curve.proofs.knots.sort_down.Given as goal
+
+abbrev pub invariant-loop-i : goal.invariant-loop-i
+invariant-loop-i l = (length l.knots ≡ length l.initial.knots) × (l.first ≤ l.i) × (l.i ≤ l.end)
+
+abbrev pub decreases-loop-i : goal.decreases-loop-i
+decreases-loop-i l = l.i
