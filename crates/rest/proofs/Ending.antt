@@ -15,7 +15,7 @@ use Rattle.model.specs.Refusals.{refusal, none, refuse_if, first_of, out_of_reac
 use Rattle.model.specs.Charge.{frame_end, feasible}
 use Rattle.model.specs.Trace.{traced_end, trace_from, trace, last_from}
 use Rattle.model.specs.declared.frame.TracedEnd.{TracedEnd}
-use Rattle.model.specs.Frames.{Frame, plan}
+use Rattle.model.specs.Frames.{Frame, left, budget, plan}
 use Rattle.model.specs.Plan.{frames_of, frames_with, plan_of}
 use Rattle.model.proofs.Choice.{pick_by}
 use Rattle.model.proofs.Trace.{traced_within}
@@ -25,7 +25,7 @@ use Rattle.rest.specs.Rest.{Ending, not_short, zeros, missing_to, ending_of, res
 plan_length : (e y : ℕ) (fs : List Frame) → length (plan e y fs) ≡ length fs
 unfolding plan
 plan_length e y [] = refl
-plan_length e y (f ∷ fs) = ap suc (plan_length e _ fs)
+plan_length e y (f ∷ fs) = ap suc (plan_length e (left f y (budget e y f fs)) fs)
 
 frames_length : (c m : ℕ) (hs : List ℕ) (ws : List Bounds) → length (frames_of c m hs ws) ≡ length hs
 unfolding frames_of
