@@ -125,9 +125,9 @@ fn fill_frame(
 
 // Puts the harvests, leasts and mosts of a file at the front of the lent lists, and answers how many frames they are.
 fn fill(file: &[u8], harvest: &mut [u32], least: &mut [u32], most: &mut [u32]) -> usize
-    requires file_in_bounds { length (harvests_in (words_of file.now)) ≤ length harvest.old }
-    requires file_in_bounds_2 { length (leasts_in (words_of file.now)) ≤ length least.old }
-    requires file_in_bounds_3 { length (mosts_in (words_of file.now)) ≤ length most.old }
+    requires harvests_fit { length (harvests_in (words_of file.now)) ≤ length harvest.old }
+    requires leasts_fit { length (leasts_in (words_of file.now)) ≤ length least.old }
+    requires mosts_fit { length (mosts_in (words_of file.now)) ≤ length most.old }
     ensures harvest { harvest.new ≡ over (harvests_in (words_of file.now))
         harvest.old }
     ensures least { least.new ≡ over (leasts_in (words_of file.now)) least.old }

@@ -47,7 +47,7 @@ fn frame_size(least: u32, most: u32) -> usize
 
 // How many words the frames of a request have.
 fn frames_size(harvest: &[u32], least: &[u32], most: &[u32]) -> usize
-    requires harvest_len_bound { length harvest.now ≤ max_frames }
+    requires few { length harvest.now ≤ max_frames }
     requires one_each { OneEach harvest.now least.now most.now }
     ensures is { result ≡ length (words_of_frames harvest.now
         (bounds_of least.now most.now)) }
@@ -64,7 +64,7 @@ fn frames_size(harvest: &[u32], least: &[u32], most: &[u32]) -> usize
 
 // How many bytes the file of a request asks for: the figures, the words of each frame, the end word.
 fn file_size(figures: Figures, harvest: &[u32], least: &[u32], most: &[u32]) -> usize
-    requires harvest_len_bound { length harvest.now ≤ max_frames }
+    requires few { length harvest.now ≤ max_frames }
     requires one_each { OneEach harvest.now least.now most.now }
     ensures { result ≡ length (file_bytes (bounded_request figures harvest.now least.now
         most.now)) }
@@ -80,7 +80,7 @@ fn content_refusal(
     most: &[u32],
     room: usize,
 ) -> Refusal
-    requires harvest_len_bound { length harvest.now ≤ max_frames }
+    requires few { length harvest.now ≤ max_frames }
     requires one_each { OneEach harvest.now least.now most.now }
     ensures { result ≡ first_of (content_refusals (bounded_request figures harvest.now least.now
         most.now) room) }
@@ -112,7 +112,7 @@ fn write_refusal(
 // Puts the figures at the front of the list, and answers the place behind them.
 fn put_figures(figures: Figures, out: &mut [u8]) -> usize
     requires figures_fit { FiguresFit figures }
-    requires figure_count_in_bounds { 4 * figure_count ≤ length out.old }
+    requires room { 4 * figure_count ≤ length out.old }
     ensures { Puts (figure_words figures) 0 out.old out.new result }
 {
     let capacity = put(FIGURE, figures.capacity, out, 0);
@@ -122,8 +122,8 @@ fn put_figures(figures: Figures, out: &mut [u8]) -> usize
 
 // Puts a least other than 0 into the list, and answers the place behind it.
 fn put_least(least: u32, out: &mut [u8], at: usize) -> usize
-    requires least_bound { least < 2 ^ 29 }
-    requires least_in_bounds { at + 4 * length (least_words least) ≤ length out.old }
+    requires fits { least < 2 ^ 29 }
+    requires room { at + 4 * length (least_words least) ≤ length out.old }
     ensures { Puts (least_words least) at out.old out.new result }
 {
     if least != 0 {
@@ -135,7 +135,7 @@ fn put_least(least: u32, out: &mut [u8], at: usize) -> usize
 // Puts a most that is an upper end into the list, and answers the place behind it.
 fn put_most(most: u32, out: &mut [u8], at: usize) -> usize
     requires most_fits { MostFits most }
-    requires most_in_bounds { at + 4 * length (most_words most) ≤ length out.old }
+    requires room { at + 4 * length (most_words most) ≤ length out.old }
     ensures { Puts (most_words most) at out.old out.new result }
 {
     if most != NO_UPPER_END {
@@ -146,8 +146,8 @@ fn put_most(most: u32, out: &mut [u8], at: usize) -> usize
 
 // Puts the words of a frame into the list, and answers the place behind them.
 fn put_frame(harvest: u32, least: u32, most: u32, out: &mut [u8], from: usize) -> usize
-    requires harvest_bound { (harvest < 2 ^ 30) × BoundsFit (bounds least most) }
-    requires most_in_bounds { from + 4 * length (words_of_frame harvest (bounds least most)) ≤ length out.old }
+    requires fits { (harvest < 2 ^ 30) × BoundsFit (bounds least most) }
+    requires room { from + 4 * length (words_of_frame harvest (bounds least most)) ≤ length out.old }
     ensures { Puts (words_of_frame harvest (bounds least most)) from out.old out.new result }
 {
     let first = put(HARVEST, harvest, out, from);
@@ -159,7 +159,7 @@ fn put_frame(harvest: u32, least: u32, most: u32, out: &mut [u8], from: usize) -
 fn put_frames(harvest: &[u32], least: &[u32], most: &[u32], out: &mut [u8], from: usize) -> usize
     requires one_each { OneEach harvest.now least.now most.now }
     requires frames_fit { FramesFit harvest.now (bounds_of least.now most.now) }
-    requires most_in_bounds { from + 4 * length (words_of_frames harvest.now (bounds_of least.now most.now)) ≤ length
+    requires room { from + 4 * length (words_of_frames harvest.now (bounds_of least.now most.now)) ≤ length
         out.old }
     ensures { Puts (words_of_frames harvest.now (bounds_of least.now most.now))
         from out.old out.new result }
@@ -177,7 +177,7 @@ fn put_frames(harvest: &[u32], least: &[u32], most: &[u32], out: &mut [u8], from
 fn put_file(figures: Figures, harvest: &[u32], least: &[u32], most: &[u32], out: &mut [u8]) -> usize
     requires one_each { OneEach harvest.now least.now most.now }
     requires fits { Fits (bounded_request figures harvest.now least.now most.now) }
-    requires most_in_bounds { length (file_bytes (bounded_request figures harvest.now least.now most.now)) ≤ length
+    requires room { length (file_bytes (bounded_request figures harvest.now least.now most.now)) ≤ length
         out.old }
     ensures list { out.new ≡ over (file_bytes (bounded_request figures harvest.now
         least.now most.now)) out.old }
