@@ -44,10 +44,10 @@ pub fn put_frames(
     out: &mut [u8],
     at: usize,
 ) -> usize
-    requires budgets_len_bound { length budgets.now ≤ max_frames }
+    requires few { length budgets.now ≤ max_frames }
     requires charges_len { length charges.now ≡ length budgets.now }
     requires losses_len { length losses.now ≡ length budgets.now }
-    requires by_index { (i : ℕ) → T (non_neg (get_or charges.now i (pos 0))) }
+    requires none_below_zero { (i : ℕ) → T (non_neg (get_or charges.now i (pos 0))) }
     ensures { Puts (lines_of frame_pattern
         (frame_rows 1 budgets.now (map nat_abs charges.now) losses.now))
         out.old at out.new result }
@@ -64,6 +64,7 @@ pub fn put_frames(
 }
 
 // The line of a refusal: its number and its P.
+#[tactic(auto, using(text::proofs::Written::puts_first))]
 pub fn put_refused(refusal: Refusal, out: &mut [u8]) -> usize
     ensures { Wrote (refused_line refusal) out.old out.new result }
 {
