@@ -33,10 +33,10 @@ pub fn fill(
     requires { Fillable (bounded_request figures harvest.now least.now most.now) ×
         (length least.now ≡ length harvest.now) × (length most.now ≡ length harvest.now) ×
         (length budgets.old ≡ length harvest.now) }
-    ensures ending { rest_said result ≡ gives (ending_of (bounded_request figures harvest.now
-        least.now most.now)) }
-    ensures written { budgets.new ≡ rest_budgets (bounded_request figures harvest.now
-        least.now most.now) }
+    ensures ending { rest_said result ≡
+        gives (ending_of (bounded_request figures harvest.now least.now most.now)) }
+    ensures written { budgets.new ≡
+        rest_budgets (bounded_request figures harvest.now least.now most.now) }
 {
     let unreachable = unreachable_refusal(figures, harvest, least);
     if !is_none(unreachable) {

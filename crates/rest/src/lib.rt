@@ -28,8 +28,7 @@ pub fn plan_rest(
     most: &[u32],
     budgets: &mut [u32],
 ) -> RestAnswer
-    ensures { RestSays shift (lists harvest.now least.now most.now)
-        budgets.old budgets.new result }
+    ensures { RestSays shift (lists harvest.now least.now most.now) budgets.old budgets.new result }
 {
     let refusal = refusals::rest_refusal(shift, harvest, least, most, budgets.len());
     if !is_none(refusal) {
@@ -53,8 +52,8 @@ pub fn plan_rest(
 // The part of the budgets that begins at the next frame, lying where they lie. The refusal goes to the lent number
 // and P, both 0 if there is none; with a refusal the part is empty.
 pub fn rest_part<'a>(shift: Shift, budgets: &'a [u32], number: &mut u32, p: &mut u64) -> &'a [u32]
-    ensures { PartSays shift budgets.now result.now budgets.entry.ref_ptr result.ref_ptr number.new
-        p.new }
+    ensures { PartSays shift budgets.now result.now budgets.entry.ref_ptr result.ref_ptr
+        number.new p.new }
 {
     let refusal = refusals::part_refusal(shift, budgets.len());
     *number = refusal.number;

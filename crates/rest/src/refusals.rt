@@ -45,8 +45,8 @@ pub fn ready_refusal(s: Shift, harvest: usize, least: usize, most: usize, budget
 // What planning checks of the frames from number first on.
 fn frames_refusal(harvest: &[u32], least: &[u32], most: &[u32], first: u64) -> Refusal
     requires { (first ≤ 2 ^ 32) × (length least.now ≡ length most.now) }
-    ensures { result ≡ first_of (harvest_over_limit first harvest.now ∷ bounds_refused first
-        (bounds_of least.now most.now) ∷ []) }
+    ensures { result ≡ first_of (harvest_over_limit first harvest.now
+        ∷ bounds_refused first (bounds_of least.now most.now) ∷ []) }
 {
     let limit = harvest_refusal(harvest, first);
     let bounds = bounds_refusal(least, most, first);
@@ -61,8 +61,7 @@ pub fn rest_refusal(
     most: &[u32],
     budgets: usize,
 ) -> Refusal
-    ensures { result ≡ rest_refusal s (lists harvest.now least.now most.now)
-        budgets }
+    ensures { result ≡ rest_refusal s (lists harvest.now least.now most.now) budgets }
 {
     let ready = ready_refusal(s, harvest.len(), least.len(), most.len(), budgets);
     if !is_none(ready) {

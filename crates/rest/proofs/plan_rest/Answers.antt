@@ -14,7 +14,7 @@ fill-requires c =
     let b = a.budgets.now in
     -- past the test there is no refusal
     let clear : is_none (rest_refusal a.shift given (length b)) ≡ true =
-        ap is_none (sym c.rest_refusal-refusal.ensures) ∙ sym c.is_none.ensures ∙ c.if-not-is_none.false in
+    ap is_none (sym c.rest_refusal-refusal.ensures) ∙ sym c.is_none.ensures ∙ c.if-not-is_none.false in
     -- so that a frame is left
     let r = (rest_open a.shift given (length b) clear).ready in (
       law.rest_fillable a.shift given b clear,
@@ -29,6 +29,6 @@ returns c =
     let given = lists a.harvest.now a.least.now a.most.now in
     let b = a.budgets.now in
     let clear : is_none (rest_refusal a.shift given (length b)) ≡ true =
-        ap is_none (sym c.rest_refusal-refusal.ensures) ∙ sym c.is_none.ensures ∙ c.if-not-is_none.false in
+    ap is_none (sym c.rest_refusal-refusal.ensures) ∙ sym c.is_none.ensures ∙ c.if-not-is_none.false in
     law.rest_filled a.shift given b clear c.fill.result c.fill.new.budgets c.fill.ensures.ending
     c.fill.ensures.written

@@ -1,7 +1,5 @@
 -- Refusals 9 and 11 decide: with one of them the list is cleared, else the planner has what it asks and plans.
-use Rattle.std.proofs.Common.{◌≡◌, sym, ◌∙◌, true, false, length}
-use Rattle.model.specs.Request.{bounded_request}
-use Rattle.model.specs.Refusals.{is_none, reachable}
+use Rattle.std.proofs.Common.{sym, ◌∙◌, true, false, length}
 use Rattle.rest.proofs.Filled as law
 use Rattle.rest.proofs.fill.fill.Goals as goal
 
@@ -28,8 +26,8 @@ plan_into-requires c =
     let a = c.args in
     let g = c.unreachable_refusal-unreachable in
     let reached =
-        law.reach_is a.figures a.harvest.now a.least.now a.most.now c.requires.1 c.requires.2 c.requires.0
-        g.result true g.ensures (sym c.is_none.ensures ∙ c.if-not-is_none.false) in (
+    law.reach_is a.figures a.harvest.now a.least.now a.most.now c.requires.1 c.requires.2 c.requires.0
+    g.result true g.ensures (sym c.is_none.ensures ∙ c.if-not-is_none.false) in (
       law.fill_ready a.figures a.harvest.now a.least.now a.most.now c.requires.1 c.requires.2 c.requires.0
           c.sum.result c.sum.ensures.is reached,
       c.requires.3,
