@@ -1,5 +1,5 @@
 /* Plans document 01's request, records a frame that went otherwise, and plans the rest again.
- * Build: cc -Iinclude examples/plan.c target/staticlib/libenergy.a -o target/plan_c */
+ * Build: cc -Iinclude examples/plan.c crates/energy/out/libenergy.a -o target/plan_c */
 #include <inttypes.h>
 #include <stdio.h>
 

@@ -6,7 +6,7 @@ cd "$(dirname "$0")/.." || exit 2
 source tests/counting.bash
 folder=$(mktemp -d)
 trap 'rm -rf "$folder"' EXIT
-mkdir -p "$folder"/{bin,crates/model,include,rust/energy,rust/gomzhiva/src,rust/gomzhiva/tests,tools,kit}
+mkdir -p "$folder"/{bin,crates/model,crates/energy,include,rust/energy,rust/gomzhiva/src,rust/gomzhiva/tests,tools,kit}
 cp bin/gomzhiva "$folder/bin"
 touch "$folder"/crates.txt "$folder"/rust/Cargo.toml "$folder"/rust/README.md "$folder"/rust/gomzhiva/tests/a.rs
 
@@ -47,6 +47,8 @@ check 'a program that went elsewhere: no old one is run' ' status 3: install pro
 check 'it is built again' $'ran plan -\ninput status 0: install prove build' "$(run none)"
 touch -d '1 hour' "$folder"/rust/README.md "$folder"/rust/gomzhiva/tests/a.rs
 check 'documents and tests are no sources' $'ran plan -\ninput status 0: ' "$(run prove)"
+touch -d '1 hour' "$folder/crates/model/out/kept"
+check 'what rt keeps is no source' $'ran plan -\ninput status 0: ' "$(run prove)"
 touch -d '1 hour' "$folder/crates/model"
 check 'a source that came or went' ' status 3: install prove' "$(run prove)"
 

@@ -5,7 +5,7 @@
 set -u
 cd "$(dirname "$0")/.." || exit 2
 
-library=${ENERGY_LIB_DIR:-target/staticlib}/libenergy.a
+library=${ENERGY_LIB_DIR:-crates/energy/out}/libenergy.a
 work=$(mktemp -d)
 trap 'rm -rf "$work"' EXIT
 source tests/counting.bash
@@ -20,7 +20,7 @@ c_program() { # a C file and the program to make of it
 }
 
 if [ -d crates/energy ] && [ -z "${ENERGY_LIB_DIR:-}" ]; then
-    rt staticlib energy
+    (cd crates/energy && rt lib)
     verdict $? 'static library'
 fi
 

@@ -3,12 +3,12 @@
 # The last line is 'N passed, M failed'.
 set -u
 cd "$(dirname "$0")/.." || exit 2
-bin=target/bin
+program=crates/plan/out/plan
 source tests/counting.bash
 folder=$(mktemp -d)
 trap 'rm -rf "$folder"' EXIT
 
-rt check plan >"$folder/build" 2>&1 || { cat "$folder/build"; echo '0 passed, 1 failed'; exit 1; }
+(cd crates/plan && rt run </dev/null) >"$folder/build" 2>&1 || { cat "$folder/build"; echo '0 passed, 1 failed'; exit 1; }
 
 # the limits that the header names
 figure() { sed -n "s/^#define ENERGY_$1 \([0-9]*\)\$/\1/p" include/energy.h; }
@@ -42,7 +42,7 @@ file() {
 least_word() { word $((0x80000000 + $1)); }
 most_word() { word $((0xA0000000 + $1)); }
 
-plan() { $bin/plan; }
+plan() { $program; }
 
 # the listing of document 01, and other plans
 listing='frames 6 capacity 5 needed 6
@@ -140,13 +140,13 @@ check 'the most frames: lines' $((most + 2)) "$(plan <"$folder/full" | wc -l)"
 check 'the most bytes and one more' 'refused 2 0' "$( (cat "$folder/full"; printf 'x') | plan)"
 check 'the most bytes of no file' 'refused 8 0' "$(head -c "$bytes" /dev/zero | tr '\0' '\377' | plan)"
 check 'the most bytes of no file and one more' 'refused 2 0' "$(head -c $((bytes + 1)) /dev/zero | tr '\0' '\377' | plan)"
-check 'an endless input' 'refused 2 0' "$(timeout 20 $bin/plan </dev/zero)"
+check 'an endless input' 'refused 2 0' "$(timeout 20 $program </dev/zero)"
 check 'an input in small pieces' "$listing" "$(while IFS= read -r -d '' -n 1 b || [ -n "$b" ]; do if [ -n "$b" ]; then printf '%s' "$b"; else printf '\0'; fi; done <"$folder/listing" | plan)"
 
 # reads and writes that fail, and such as move few bytes at a time: told on standard error, and after a failed read nothing is printed
 cc -shared -fPIC -O1 -Wall -Wextra -Werror -o "$folder/faults.so" tests/faults.c || echo 'tests/faults.c: not compiled'
-plan_out() { env "$@" LD_PRELOAD="$folder/faults.so" $bin/plan <"$folder/listing" 2>/dev/null; }
-plan_err() { env "$@" LD_PRELOAD="$folder/faults.so" $bin/plan <"$folder/listing" 2>&1 >/dev/null; }
+plan_out() { env "$@" LD_PRELOAD="$folder/faults.so" $program <"$folder/listing" 2>/dev/null; }
+plan_err() { env "$@" LD_PRELOAD="$folder/faults.so" $program <"$folder/listing" 2>&1 >/dev/null; }
 check 'reads and writes of 7 bytes' "$listing" "$(plan_out PIECE=7)"
 check 'reads and writes of 7 bytes: nothing told' '' "$(plan_err PIECE=7)"
 check 'reads and writes of 1 byte' "$listing" "$(plan_out PIECE=1)"
@@ -158,10 +158,17 @@ check 'the read for the end fails' '' "$(plan_out READS=1)"
 check 'the read for the end fails: told' 'plan: standard input: Input/output error' "$(plan_err READS=1)"
 check 'the first write fails: told' 'plan: standard output: Input/output error' "$(plan_err WRITES=0)"
 check 'the third write fails: told' 'plan: standard output: Input/output error' "$(plan_err PIECE=7 WRITES=2)"
-check 'a directory' '' "$($bin/plan <"$folder" 2>/dev/null)"
-check 'a directory: told' 'plan: standard input: Is a directory' "$($bin/plan <"$folder" 2>&1 >/dev/null)"
-check 'a closed input: told' 'plan: standard input: Bad file descriptor' "$($bin/plan 2>&1 >/dev/null <&-)"
-check 'a full disk: told' 'plan: standard output: No space left on device' "$($bin/plan <"$folder/listing" 2>&1 >/dev/full)"
-check 'a closed output: told' 'plan: standard output: Bad file descriptor' "$($bin/plan <"$folder/listing" 2>&1 >&-)"
+check 'a directory' '' "$($program <"$folder" 2>/dev/null)"
+check 'a directory: told' 'plan: standard input: Is a directory' "$($program <"$folder" 2>&1 >/dev/null)"
+check 'a closed input: told' 'plan: standard input: Bad file descriptor' "$($program 2>&1 >/dev/null <&-)"
+check 'a full disk: told' 'plan: standard output: No space left on device' "$($program <"$folder/listing" 2>&1 >/dev/full)"
+check 'a closed output: told' 'plan: standard output: Bad file descriptor' "$($program <"$folder/listing" 2>&1 >&-)"
+
+# the exit status: 1 where a read or a write failed, else 0
+status() { "$@" >/dev/null 2>&1; echo $?; }
+check 'status of a listing' 0 "$(status $program <"$folder/listing")"
+check 'status of a refusal' 0 "$(status $program </dev/null)"
+check 'status of a failed read' 1 "$(status $program <"$folder")"
+check 'status of a failed write' 1 "$(status env WRITES=0 LD_PRELOAD="$folder/faults.so" $program <"$folder/listing")"
 
 finish 40

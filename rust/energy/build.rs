@@ -1,4 +1,4 @@
-//! Links `libenergy.a`, which `rt staticlib energy` makes in target/staticlib; ENERGY_LIB_DIR names another folder.
+//! Links `libenergy.a`, which `rt lib` in crates/energy makes in its folder out/; ENERGY_LIB_DIR names another folder.
 
 use std::env;
 use std::path::PathBuf;
@@ -7,14 +7,14 @@ fn main() {
     let manifest = PathBuf::from(env::var_os("CARGO_MANIFEST_DIR").expect("cargo sets the manifest's directory"));
     let directory = match env::var_os("ENERGY_LIB_DIR") {
         Some(given) => PathBuf::from(given),
-        None => manifest.join("../../target/staticlib"),
+        None => manifest.join("../../crates/energy/out"),
     };
     let archive = directory.join("libenergy.a");
     println!("cargo:rerun-if-env-changed=ENERGY_LIB_DIR");
     println!("cargo:rerun-if-changed={}", archive.display());
     assert!(
         archive.is_file(),
-        "there is no {}: make it by `rt staticlib energy`, or name its folder in ENERGY_LIB_DIR",
+        "there is no {}: make it by `rt lib` in crates/energy, or name its folder in ENERGY_LIB_DIR",
         archive.display()
     );
     println!("cargo:rustc-link-search=native={}", directory.display());
