@@ -28,7 +28,7 @@ fn list_plan(
     losses: &mut [u32],
     out: &mut [u8],
 ) -> usize
-    requires budgets_value { is_none (plan_refusal (bounded_request figures harvest.now least.now most.now) (length least.now)
+    requires not_refused { is_none (plan_refusal (bounded_request figures harvest.now least.now most.now) (length least.now)
         (length most.now) (length budgets.old)) ≡ true }
     requires charges_len { length charges.old ≡ length harvest.now }
     requires losses_len { length losses.old ≡ length harvest.now }
