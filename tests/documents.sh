@@ -49,10 +49,14 @@ names_in() {
         { n = split(names, each, ","); for (i = 1; i <= n; i++) print crate, each[i] }' docs/READING.md | sort
 }
 
-# handed_on CRATE: 'crate name' for every function that other crates can call, by name or in a public module
+# passed_on FILE: what stands behind each 'pub use' of a source, one a line
+passed_on() { tr -s '\n' ' ' <"$1" | grep -o 'pub use [^;]*;' | sed 's/^pub use //; s/;$//'; }
+
+# handed_on CRATE: every function that other crates can call, by name or in a public module
 handed_on() {
     local source=crates/$1/src module
-    sed -n 's/^pub use [a-z_]*::\([a-z_]*\);$/\1/p; s/^pub fn \([a-z_]*\)[(<].*/\1/p' "$source/lib.rt"
+    passed_on "$source/lib.rt" | sed 's/^[a-z_]*:://' | tr -s '{}, ' '\n' | grep -x '[a-z_]\+'
+    sed -n 's/^pub fn \([a-z_]*\)[(<].*/\1/p' "$source/lib.rt"
     for module in $(sed -n 's/^pub mod \([a-z_]*\);$/\1/p' "$source/lib.rt"); do
         sed -n 's/^pub fn \([a-z_]*\)[(<].*/\1/p' "$source/$module.rt"
     done
@@ -67,7 +71,7 @@ done | sort)
 listed=$( (names_in '| entry | code | promise |'; names_in '| crate | functions | condition |') | grep -vE '^energy |::' | sort)
 differing=$(diff <(echo "$listed") <(echo "$public") | grep '^[<>]')
 verdict $((${#differing} > 0)) "READING: entries and inner functions (<) and what the crates hand on (>) differ:"$'\n'"$differing"
-! grep -nE '^pub use .*[{*]' crates/*/src/lib.rt
+! for lib in crates/*/src/lib.rt; do passed_on "$lib"; done | grep -vEx '[a-z_]+::([A-Za-z0-9_]+|\{[A-Za-z0-9_, ]+\})'
 verdict $? 'a crate hands on more than single names'
 
 for program in plan day; do
