@@ -1,6 +1,6 @@
 -- Each entry's answer made flat: the refusal, none where a value is given, and the value, zeros where it is refused.
 use Rattle.std.specs.Prelude.{ℕ}
-use Rattle.model.specs.declared.Refusal.{Refusal}
+use Rattle.model.specs.Refusals.{Refusal}
 use Rattle.model.specs.Choice.{pick}
 use Rattle.model.specs.Request.{figures}
 use Rattle.model.specs.Refusals.{Outcome, gives, refuses, none}

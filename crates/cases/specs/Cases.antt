@@ -3,7 +3,7 @@
 -- what each of them states of the definitions.
 use Rattle.std.specs.Prelude.{◌≡◌, true, List, [], ◌∷◌, ◌++◌, ℤ, pos, negsuc, ℕ, ◌+◌, length, replicate, drop}
 use Prim.Native.String.{String}
-use Rattle.model.specs.declared.Refusal.{Refusal}
+use Rattle.model.specs.Refusals.{Refusal}
 use Rattle.model.specs.Limits.{no_upper_end}
 use Rattle.model.specs.Request.{Request, bounded_request, figures, frame_count}
 use Rattle.model.specs.Refusals.{refusal, none, plan_refusal, needed_refusal, start_refusal}

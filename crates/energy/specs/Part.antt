@@ -1,6 +1,6 @@
 -- The returned part of a shift's budgets: a reference is not handed to C, so C gets where it lies and how long it is.
 use Rattle.std.specs.Prelude.{List, ℕ, ◌-◌, ◌/◌, length}
-use Rattle.model.specs.declared.Refusal.{Refusal}
+use Rattle.model.specs.Refusals.{Refusal}
 use Rattle.shift.specs.declared.Shift.{Shift}
 use Rattle.rest.specs.Says.{PartSays}
 use Rattle.energy.specs.declared.shifts.EnergyPartAnswer.{EnergyPartAnswer}

@@ -4,7 +4,7 @@ use Prim.Native.Nat.{ℕ, ◌≤◌, ◌<◌}
 use native.Mathlib.Omega.{arith}
 use lib.ListN.{length}
 use borrow.Author.Tests.{ne_eqb, le-ltb}
-use Rattle.model.specs.declared.Refusal.{Refusal}
+use Rattle.model.specs.Refusals.{Refusal}
 use Rattle.model.specs.Limits.{max_frames}
 use Rattle.model.specs.Refusals.{grade_refusal}
 use Rattle.model.proofs.Outcome.{no_refusal}

@@ -5,7 +5,7 @@ use mathlib.Core.List.{List}
 use Prim.Native.Nat.{ℕ}
 use lib.IntN.{pos}
 use lib.ListN.{length}
-use Rattle.model.specs.declared.Refusal.{Refusal}
+use Rattle.model.specs.Refusals.{Refusal}
 use Rattle.model.specs.Refusals.{gives, refuses, is_none, grade_refusal}
 use Rattle.model.specs.Curves.{house_curve, grade}
 use Rattle.model.proofs.Curves.{house_qualifies, earned_grade}

@@ -9,7 +9,7 @@ use lib.Dec.{T}
 use lib.IntN.{ℤ, pos}
 use lib.ListN.{length, get_or, take, replicate, length-map, length-take, length-replicate}
 use lib.Signed.{non_neg}
-use Rattle.model.specs.declared.Refusal.{Refusal}
+use Rattle.model.specs.Refusals.{Refusal}
 use Rattle.model.specs.Choice.{pick}
 use Rattle.model.specs.Limits.{max_frames, max_capacity}
 use Rattle.model.specs.Request.{Request, frame_count}
@@ -20,7 +20,7 @@ use Rattle.model.specs.Trace.{trace, trace_losses}
 use Rattle.model.specs.Plan.{plan_of, needed_of}
 use Rattle.model.proofs.Choice.{pick_by}
 use Rattle.model.proofs.First.{first_none, none_first, both_none}
-use Rattle.model.proofs.Request.{plan_is}
+use Rattle.model.proofs.Requests.{plan_is}
 use Rattle.model.proofs.Trace.{trace_charges, trace_losses_lem, feasible_drawable, feasible_length}
 use Rattle.request.proofs.Within.{plan_within}
 use Rattle.grader.specs.Says.{sums_of}

@@ -7,7 +7,7 @@ use Prim.Native.Nat.{ℕ, ◌-◌, ◌≤◌}
 use native.Mathlib.Omega.{arith}
 use lib.ListN.{length, take, drop}
 use lib.Seq.{take_at}
-use Rattle.model.specs.declared.Refusal.{Refusal}
+use Rattle.model.specs.Refusals.{Refusal}
 use Rattle.model.specs.Lent.{over}
 use Rattle.model.specs.Limits.{max_frames}
 use Rattle.model.specs.Request.{bounded_request}

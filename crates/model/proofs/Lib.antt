@@ -19,9 +19,10 @@ pub mod Ceilings
 pub mod Bridge
 pub mod Reach
 pub mod Absent
-pub mod Request
+pub mod Requests
 pub mod Needed
 pub mod Peak
 pub mod First
+pub mod Answer
 pub mod Refusals
 pub mod Outcome

@@ -23,8 +23,8 @@ use Rattle.model.proofs.Requirement.{Fits, feasible_fits, fits_feasible}
 use Rattle.model.proofs.Ceilings.{Open, MostsWithin, OtherCeilings, requirement_same}
 use Rattle.model.proofs.Ceilings.{ceilings_serve}
 use Rattle.model.proofs.Reach.{feasible_spent, unlimited_storage, reachable_unlimited_is, feasible_open}
-use Rattle.model.proofs.Request.{earns_serves, plan_serves, plan_feasible, plan_feasible_by, plan_is}
-use Rattle.model.proofs.Request.{over_frames, from_frames}
+use Rattle.model.proofs.Requests.{earns_serves, plan_serves, plan_feasible, plan_feasible_by, plan_is}
+use Rattle.model.proofs.Requests.{over_frames, from_frames}
 
 -- frames of two capacities differ in their ceilings alone
 frames_other : (c d m : ℕ) (hs : List ℕ) (ws : List Bounds) → OtherCeilings (frames_of c m hs ws) (frames_of d m hs ws)

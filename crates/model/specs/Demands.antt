@@ -1,4 +1,4 @@
--- Demands 2 and 3 as statements about a request, whatever its size. They are proved in proofs/Request.antt and
+-- Demands 2 and 3 as statements about a request, whatever its size. They are proved in proofs/Requests.antt and
 -- proofs/Needed.antt.
 use Rattle.std.specs.Prelude.{◌≡◌, true, false, List, ℤ, get_or, ℕ, ◌≤◌}
 use Rattle.model.specs.Request.{Request, most_energy, with_capacity}

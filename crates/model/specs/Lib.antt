@@ -5,6 +5,7 @@ pub mod Limits
 pub mod Request
 pub mod Charge
 pub mod Refusals
+pub mod Answer
 pub mod Trace
 pub mod Reward
 pub mod Curves

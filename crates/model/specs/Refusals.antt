@@ -1,12 +1,16 @@
 -- Refusals 1 to 7 and 9 to 11, each with its P. An entry has a list of them, in its order; the first that holds is
 -- given.
 use Rattle.std.specs.Prelude.{◌≡◌, Bool, true, false, not, ◌&&◌, ◌||◌, List, [], ◌∷◌, ◌++◌, ℕ, suc, ◌-◌, eqb, ltb}
-use Rattle.model.specs.declared.Refusal.{Refusal}
 use Rattle.model.specs.Choice.{pick}
 use Rattle.model.specs.Limits.{max_frames, max_harvest, max_capacity, max_bound, no_upper_end}
 use Rattle.model.specs.declared.Figures.{Figures}
 use Rattle.model.specs.Request.{Bounds, Request, frame_count, most_energy, leasts}
 use Rattle.model.specs.Charge.{feasible, feasible_unlimited}
+
+-- a refusal: document 01's number and its P
+pub record Refusal : Type 0 where
+  pub number : ℕ
+  pub p : ℕ
 
 -- refusal number n with its P
 abbrev pub refusal : ℕ → ℕ → Refusal

@@ -1,10 +1,12 @@
 // What a request, a feasible assignment, a plan and a needed capacity are (specs/), and the theorems about them
-// (proofs/). Of code there are the limits, the figures of a request, the refusal that every entry can answer, and the
-// frame rule.
+// (proofs/). Of code there are the limits, a request as it is lent, the refusals, and the frame rule.
 #![tactic(auto)]
 
 pub mod frame;
 pub mod limits;
+mod refusal;
+
+pub use refusal::Refusal;
 
 // The figures of a request.
 #[repr(C)]
@@ -15,10 +17,17 @@ pub struct Figures {
     pub end: u32,
 }
 
-// A refusal: document 01's number and its P.
-#[repr(C)]
+// Lists that are to hold a harvest, a least and a most for each frame; of their lengths nothing is known.
 #[derive(Clone, Copy)]
-pub struct Refusal {
-    pub number: u32,
-    pub p: u64,
+pub struct Lists<'a> {
+    pub harvest: &'a [u32],
+    pub least: &'a [u32],
+    pub most: &'a [u32],
+}
+
+// A request as it is lent.
+#[derive(Clone, Copy)]
+pub struct Request<'a> {
+    pub figures: Figures,
+    pub lists: Lists<'a>,
 }

@@ -5,7 +5,7 @@ use mathlib.Core.List.{List}
 use Prim.Native.Nat.{ℕ, ◌+◌, max}
 use native.Mathlib.Omega.{arith}
 use lib.ListN.{length}
-use Rattle.model.specs.declared.Refusal.{Refusal}
+use Rattle.model.specs.Refusals.{Refusal}
 use Rattle.model.specs.Choice.{pick}
 use Rattle.model.specs.declared.Figures.{Figures}
 use Rattle.model.specs.Request.{Request, bounded_request, leasts, total}
@@ -14,7 +14,7 @@ use Rattle.model.specs.Reward.{IsPlan, IsNeeded}
 use Rattle.model.specs.Frames.{plan, peak}
 use Rattle.model.specs.Plan.{frames_of, plan_of, open_plan, needed_of}
 use Rattle.model.proofs.Reach.{none_feasible, none_open, none_capacity, reachable_open}
-use Rattle.model.proofs.Request.{over_frames, within_reach, plan_is}
+use Rattle.model.proofs.Requests.{over_frames, within_reach, plan_is}
 use Rattle.model.proofs.Needed.{open_plan_frames, needed_is}
 use Rattle.model.proofs.Refusals.{plan_unreachable, needed_unreachable}
 use Rattle.leveller.specs.Plan.{Ready}

@@ -6,7 +6,7 @@ use Prim.Native.Nat.{ℕ, suc, ◌+◌, ◌*◌, ◌^◌, ◌≤◌, ◌<◌}
 use native.Mathlib.Omega.{arith}
 use native.Mathlib.Nat.{le_trans}
 use lib.ListN.{length, get_or, take, length-append}
-use Rattle.model.specs.declared.Refusal.{Refusal}
+use Rattle.model.specs.Refusals.{Refusal}
 use Rattle.model.specs.Choice.{pick}
 use Rattle.model.specs.Limits.{max_frames, max_harvest, max_capacity}
 use Rattle.model.specs.Request.{Request, frame_count, total}
@@ -17,7 +17,7 @@ use Rattle.model.specs.Plan.{plan_of, needed_of}
 use Rattle.model.proofs.Curves.{worth_bound}
 use Rattle.model.proofs.Needed.{needed_at_most}
 use Rattle.model.proofs.Reach.{feasible_spent}
-use Rattle.model.proofs.Request.{plan_feasible}
+use Rattle.model.proofs.Requests.{plan_feasible}
 use Rattle.model.proofs.Trace.{feasible_length}
 use Rattle.request.proofs.Harvest.{total_small}
 use Rattle.request.proofs.Within.{FiguresWithin, plan_within}

@@ -9,7 +9,7 @@ use native.Mathlib.Omega.{arith}
 use lib.Dec.{eqb}
 use borrow.Author.Tests.{ne_eqb}
 use lib.ListN.{length, get_or, drop, length-map}
-use Rattle.model.specs.declared.Refusal.{Refusal}
+use Rattle.model.specs.Refusals.{Refusal}
 use Rattle.model.specs.Choice.{pick}
 use Rattle.model.specs.Limits.{max_frames}
 use Rattle.model.specs.Request.{Request, leasts, frame_count}
@@ -19,7 +19,7 @@ use Rattle.model.specs.Plan.{plan_of}
 use Rattle.model.proofs.Needed.{needed_is}
 use Rattle.model.proofs.Reach.{reachable_is, reachable_open, feasible_open, none_feasible}
 use Rattle.model.proofs.Refusals.{Other, plan_unreachable}
-use Rattle.model.proofs.Request.{plan_is}
+use Rattle.model.proofs.Requests.{plan_is}
 use Rattle.model.proofs.Trace.{ends, feasible_length}
 use Rattle.request.proofs.Within.{plan_within}
 use Rattle.wordfile.specs.File.{request_in, read_refusal}

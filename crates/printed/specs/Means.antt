@@ -2,7 +2,7 @@
 use Rattle.std.specs.Prelude.{◌≡◌, ◌⊎◌, true, false, List, ℕ, length}
 use Rattle.model.specs.Request.{Request, frame_count}
 use Rattle.model.specs.Refusals.{is_unreachable}
-use Rattle.model.specs.declared.Refusal.{Refusal}
+use Rattle.model.specs.Refusals.{Refusal}
 use Rattle.model.specs.Charge.{feasible, charges, losses}
 use Rattle.model.specs.Curves.{house_curve, grade}
 use Rattle.model.specs.Reward.{IsPlan, IsNeeded}

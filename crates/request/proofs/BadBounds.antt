@@ -9,7 +9,7 @@ use lib.Dec.{ltb, eqb}
 use lib.ListN.{length, get_or, drop, drop_of_length-le}
 use lib.Seq.{drop-cons}
 use borrow.Author.Tests.{lt-ltb, le-ltb, ltb-false, eqb-true}
-use Rattle.model.specs.declared.Refusal.{Refusal}
+use Rattle.model.specs.Refusals.{Refusal}
 use Rattle.model.specs.Limits.{max_bound, no_upper_end}
 use Rattle.model.specs.Request.{Bounds, absent, bounds, bounds_of}
 use Rattle.model.specs.Refusals.{refusal, none, is_none, bad_bounds, bounds_refused}

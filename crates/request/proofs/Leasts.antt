@@ -10,7 +10,7 @@ use lib.Dec.{leb, eqb}
 use lib.ListN.{length, get_or, drop, drop_of_length-le}
 use lib.Seq.{drop-cons}
 use borrow.Author.Tests.{le-leb, lt-leb}
-use Rattle.model.specs.declared.Refusal.{Refusal}
+use Rattle.model.specs.Refusals.{Refusal}
 use Rattle.model.specs.declared.Figures.{Figures}
 use Rattle.model.specs.Limits.{no_upper_end}
 use Rattle.model.specs.Request.{Bounds, Request, bounds, bounds_of, bounded_request, leasts_from, leasts, with_capacity}

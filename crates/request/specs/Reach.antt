@@ -1,7 +1,7 @@
 -- Refusals 9 and 11 as the code finds them, by drawing the leasts.
 use Rattle.std.specs.Prelude.{not, List, [], ◌∷◌, ℕ}
 use Rattle.model.specs.declared.Figures.{Figures}
-use Rattle.model.specs.declared.Refusal.{Refusal}
+use Rattle.model.specs.Refusals.{Refusal}
 use Rattle.model.specs.Request.{request}
 use Rattle.model.specs.Charge.{feasible_from}
 use Rattle.model.specs.Refusals.{refuse_if, out_of_reach}

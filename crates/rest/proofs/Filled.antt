@@ -8,7 +8,7 @@ use native.Mathlib.Numerals.{add-one}
 use lib.ListN.{length, set, take, replicate, replicate-append-replicate}
 use lib.Seq.{take_all, take-suc-set}
 use Rattle.model.specs.declared.Figures.{Figures}
-use Rattle.model.specs.declared.Refusal.{Refusal}
+use Rattle.model.specs.Refusals.{Refusal}
 use Rattle.model.specs.Limits.{max_harvest}
 use Rattle.model.specs.Request.{Request, bounds_of, bounded_request, total, frame_count}
 use Rattle.model.specs.Charge.{all_within}
@@ -16,7 +16,7 @@ use Rattle.model.specs.Refusals.{is_none, first_of, out_of_reach, leasts_refused
 use Rattle.model.specs.Frames.{plan}
 use Rattle.model.specs.Plan.{frames_of, plan_of}
 use Rattle.model.proofs.Choice.{pick_by}
-use Rattle.model.proofs.Request.{over_frames, within_reach}
+use Rattle.model.proofs.Requests.{over_frames, within_reach}
 use Rattle.request.specs.Reach.{unreachable_by}
 use Rattle.request.proofs.Harvest.{total_small}
 use Rattle.request.proofs.Leasts.{leasts_are, unreachable_is}

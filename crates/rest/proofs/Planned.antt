@@ -8,14 +8,14 @@ use lib.ListN.{length, take, drop, length-append, length-drop, drop_of_length-le
 use lib.Seq.{length-take-le, take_at, drop_at}
 use borrow.Author.Tests.{not-true, not-false}
 use borrow.Rule.Slice.PartMut.{put_mid}
-use Rattle.model.specs.declared.Refusal.{Refusal}
+use Rattle.model.specs.Refusals.{Refusal}
 use Rattle.model.specs.Request.{Request, figures, bounds_of, bounded_request}
 use Rattle.model.specs.Charge.{all_within}
 use Rattle.model.specs.Refusals.{is_none, reachable, gives, refuses}
 use Rattle.model.specs.Reward.{IsPlan}
 use Rattle.model.specs.Plan.{plan_of}
 use Rattle.model.proofs.Reach.{none_feasible}
-use Rattle.model.proofs.Request.{plan_is}
+use Rattle.model.proofs.Requests.{plan_is}
 use Rattle.request.proofs.Leasts.{leasts_are, leasts_in_lem}
 use Rattle.rest.specs.Rest.{Lists, Fillable, zeros}
 use Rattle.rest.proofs.Ending.{rest_length}

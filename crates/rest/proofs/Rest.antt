@@ -9,7 +9,7 @@ use lib.Dec.{eqb}
 use lib.ListN.{length, get_or, take, drop, length-drop, take-append-drop}
 use lib.Seq.{take_all}
 use borrow.Author.Tests.{eq-eqb, ne_eqb}
-use Rattle.model.specs.declared.Refusal.{Refusal}
+use Rattle.model.specs.Refusals.{Refusal}
 use Rattle.model.specs.Choice.{pick}
 use Rattle.model.specs.Limits.{max_harvest}
 use Rattle.model.specs.Request.{bounds_of}

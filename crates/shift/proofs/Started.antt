@@ -3,13 +3,13 @@ use mathlib.Core.Path.{◌≡◌, ap, ◌∙◌}
 use mathlib.Core.Bool.{true}
 use Prim.Native.Nat.{ℕ}
 use native.Mathlib.Omega.{arith}
-use Rattle.model.specs.declared.Refusal.{Refusal}
+use Rattle.model.specs.Refusals.{Refusal}
 use Rattle.model.specs.Choice.{pick}
 use Rattle.model.specs.Request.{Request}
 use Rattle.model.specs.Refusals.{is_none, start_refusal}
 use Rattle.model.specs.Reward.{IsPlan}
 use Rattle.model.specs.Plan.{plan_of}
-use Rattle.model.proofs.Request.{plan_is}
+use Rattle.model.proofs.Requests.{plan_is}
 use Rattle.model.proofs.Reach.{none_feasible}
 use Rattle.model.proofs.Refusals.{start_unreachable}
 use Rattle.request.proofs.Within.{start_within}

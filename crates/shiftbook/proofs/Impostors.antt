@@ -11,7 +11,7 @@ use lib.Dec.{eqb, ltb}
 use lib.ListN.{length, get_or, take, drop}
 use lib.Seq.{length-take-le, drop_at}
 use borrow.Author.Tests.{eq-eqb, eqb-true, not-true}
-use Rattle.model.specs.declared.Refusal.{Refusal}
+use Rattle.model.specs.Refusals.{Refusal}
 use Rattle.model.specs.Limits.{no_upper_end}
 use Rattle.model.specs.Request.{Request, figures, bounded_request, bounds_of}
 use Rattle.model.specs.Refusals.{refusal, is_none, first_of, wrong_length, harvest_over_limit, reachable}

@@ -7,7 +7,7 @@ use Prim.Native.Nat.{ℕ, suc, ◌-◌}
 use lib.Dec.{eqb, ltb}
 use lib.ListN.{length, take, drop}
 use lib.IntN.{pos}
-use Rattle.model.specs.declared.Refusal.{Refusal}
+use Rattle.model.specs.Refusals.{Refusal}
 use Rattle.model.specs.Choice.{pick}
 use Rattle.model.specs.Request.{Request, bounds_of}
 use Rattle.model.specs.Trace.{trace, last_from}

@@ -1,7 +1,7 @@
 -- The logbook of demand 3: kept from the calls' typed figures alone, beside the shift. Its recording rule is worded
 -- here, apart from the record's.
 use Rattle.std.specs.Prelude.{List, [], ◌∷◌, ◌++◌, ℕ, suc, ◌+◌, drop}
-use Rattle.model.specs.declared.Refusal.{Refusal}
+use Rattle.model.specs.Refusals.{Refusal}
 use Rattle.model.specs.Request.{Request, figures, bounded_request, frame_count}
 use Rattle.model.specs.Refusals.{first_of}
 use Rattle.model.specs.Charge.{frame_end}

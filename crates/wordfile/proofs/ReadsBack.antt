@@ -6,7 +6,7 @@ use native.Mathlib.Omega.{arith}
 use lib.ListN.{length, take, drop}
 use lib.Seq.{drop_at}
 use Rattle.model.specs.declared.Figures.{Figures}
-use Rattle.model.specs.declared.Refusal.{Refusal}
+use Rattle.model.specs.Refusals.{Refusal}
 use Rattle.model.specs.Request.{Bounds, Request, bounds_of, bounded_request}
 use Rattle.model.specs.Refusals.{gives, outcome}
 use Rattle.model.proofs.Outcome.{gave}

@@ -1,7 +1,7 @@
 -- The request in a word file, what its reader refuses, the file of a request, and what its writer refuses.
 use Rattle.std.specs.Prelude.{◌≡◌, List, [], ◌∷◌, ◌++◌, ℕ, ◌+◌, ◌*◌, ◌^◌, ◌<◌, eqb, ltb, length, get_or, drop}
 use Rattle.model.specs.declared.Figures.{Figures}
-use Rattle.model.specs.declared.Refusal.{Refusal}
+use Rattle.model.specs.Refusals.{Refusal}
 use Rattle.model.specs.Choice.{pick}
 use Rattle.model.specs.Limits.{max_file_bytes, no_upper_end}
 use Rattle.model.specs.Request.{Bounds, Request, absent, bounded_request, figures, first_bounds, frame_count, later_bounds}

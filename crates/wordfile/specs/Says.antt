@@ -1,6 +1,6 @@
 -- What reading and writing a word file promise, and which files are the writer's.
 use Rattle.std.specs.Prelude.{◌≡◌, true, List, ℕ, ◌≤◌, ◌<◌, length, get_or, take}
-use Rattle.model.specs.declared.Refusal.{Refusal}
+use Rattle.model.specs.Refusals.{Refusal}
 use Rattle.model.specs.Choice.{pick}
 use Rattle.model.specs.Request.{Request, frame_count}
 use Rattle.model.specs.Refusals.{Outcome, gives, refuses, outcome, is_none, none}

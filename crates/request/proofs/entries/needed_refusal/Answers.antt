@@ -1,7 +1,7 @@
 -- The lists' lengths come first, then the limits; past them start plus all harvest is a store that no charge exceeds, so
 -- that 11 with it is 11 without limit.
 use Rattle.std.proofs.Common.{◌≡◌, sym, ap, ◌∙◌, true, [], ◌∷◌, ◌++◌, length, ◌*◌, ◌≤◌, arith}
-use Rattle.model.specs.declared.Refusal.{Refusal}
+use Rattle.model.specs.Refusals.{Refusal}
 use Rattle.model.specs.Limits.{max_frames, max_harvest}
 use Rattle.model.specs.Request.{bounded_request, total}
 use Rattle.model.specs.Refusals.{is_none, first_of, lent_refusals, open_limits, open_refusals, bounds_refused, out_of_reach}
