@@ -2,17 +2,18 @@
 use mathlib.Core.Path.{◌≡◌, refl, sym, ap, ◌∙◌}
 use mathlib.Core.Bool.{Bool, true, false, false≢true, not, ◌&&◌, ◌||◌}
 use mathlib.Core.List.{List, [], ◌∷◌}
-use Prim.Native.Nat.{ℕ, zero, suc, ◌+◌, ◌≤◌, ◌<◌}
+use Prim.Native.Nat.{ℕ, zero, suc, ◌≤◌, ◌<◌}
 use native.Mathlib.Omega.{arith}
-use native.Mathlib.Numerals.{add-one}
 use lib.Dec.{ltb, eqb}
-use lib.ListN.{length, get_or, drop, drop_of_length-le}
-use lib.Seq.{drop-cons}
+use lib.ListN.{length, get_or}
 use borrow.Author.Tests.{lt-ltb, le-ltb, ltb-false, eqb-true}
+use Rattle.std.proofs.Common.{Option, map}
+use Rattle.std.specs.List.{position_from, zip}
 use Rattle.model.specs.Refusals.{Refusal}
 use Rattle.model.specs.Limits.{max_bound, no_upper_end}
 use Rattle.model.specs.Request.{Bounds, absent, bounds, bounds_of}
 use Rattle.model.specs.Refusals.{refusal, none, is_none, bad_bounds, bounds_refused}
+use Rattle.request.proofs.Place.{at_place, by_place}
 
 -- ---- the bounds of one frame, by the tests that the code makes
 module _ (l m : ℕ) where
@@ -53,6 +54,14 @@ bounds_fit l m e =
 
 -- ---- the bounds of every frame
 
+-- a pair of a least and a most
+abbrev pub bounds_pair : ℕ × ℕ → Bounds
+bounds_pair p = bounds p.0 p.1
+
+-- whether they are bad
+abbrev pub bad_pair : ℕ × ℕ → Bool
+bad_pair p = bad_bounds (bounds_pair p)
+
 -- as many as there are leasts and mosts
 pub bounds_length : (ls ms : List ℕ) → length ls ≡ length ms → length (bounds_of ls ms) ≡ length ls
 bounds_length [] ms e = refl
@@ -68,39 +77,29 @@ bounds_nth i (x ∷ ls) [] l e = absurd (omega arith)
 bounds_nth zero (x ∷ ls) (y ∷ ms) l e = refl
 bounds_nth (suc i) (x ∷ ls) (y ∷ ms) l e = bounds_nth i ls ms (omega arith) (omega arith)
 
--- the bounds from frame i on
-pub bounds_at : (i : ℕ) (ls ms : List ℕ) → i < length ls → length ls ≡ length ms →
-    bounds_of (drop i ls) (drop i ms) ≡ bounds (get_or ls i 0) (get_or ms i 0) ∷ bounds_of (drop (suc i) ls) (drop (suc i) ms)
-bounds_at i ls ms l e = rw (drop-cons ls i 0 l, drop-cons ms i 0 (omega arith))
-
 -- the first frame decides by its test
 by_test : (k : ℕ) (w : Bounds) (ws : List Bounds) (t : Bool) → t ≡ bad_bounds w
     → bounds_refused k (w ∷ ws) ≡ elim t as (λ _. Refusal) [ true ↦ refusal 10 k | false ↦ bounds_refused (suc k) ws ]
 by_test k w ws t e =
     ap (λ (u : Bool). elim u as (λ _. Refusal) [ true ↦ refusal 10 k | false ↦ bounds_refused (suc k) ws ]) (sym e)
 
-module _ (ls ms : List ℕ) (e : length ls ≡ length ms) (i : ℕ) where
-  -- bad bounds are the ones refused
-  pub bad_here : (k : ℕ) → i < length ls → true ≡ bad_bounds (bounds (get_or ls i 0) (get_or ms i 0)) →
-      bounds_refused k (bounds_of (drop i ls) (drop i ms)) ≡ refusal 10 k
-  bad_here k l b =
-      ap (bounds_refused k) (bounds_at i ls ms l e)
-      ∙ by_test k (bounds (get_or ls i 0) (get_or ms i 0)) (bounds_of (drop (suc i) ls) (drop (suc i) ms)) true b
+-- leasts and mosts as pairs
+pub bounds_zip : (ls ms : List ℕ) → map bounds_pair (zip ls ms) ≡ bounds_of ls ms
+bounds_zip [] ms = refl
+bounds_zip (l ∷ ls) [] = refl
+bounds_zip (l ∷ ls) (m ∷ ms) = ap (λ (ws : List Bounds). bounds l m ∷ ws) (bounds_zip ls ms)
 
-  -- good ones are passed over
-  pub good_later : (k : ℕ) → i < length ls → false ≡ bad_bounds (bounds (get_or ls i 0) (get_or ms i 0)) →
-      bounds_refused (k + (i + 1)) (bounds_of (drop (i + 1) ls) (drop (i + 1) ms))
-      ≡ bounds_refused (k + i) (bounds_of (drop i ls) (drop i ms))
-  good_later k l b =
-      let n : k + (i + 1) ≡ suc (k + i) = omega arith in
-      let w = bounds (get_or ls i 0) (get_or ms i 0) in
-      rw (n, add-one i) (sym
-      (ap (bounds_refused (k + i)) (bounds_at i ls ms l e)
-      ∙ by_test (k + i) w (bounds_of (drop (suc i) ls) (drop (suc i) ms)) false b))
-
-  -- past the last frame nothing is refused
-  pub bad_never : (k : ℕ) → i ≡ length ls → bounds_refused k (bounds_of (drop i ls) (drop i ms)) ≡ none
-  bad_never k p = rw (drop_of_length-le ls {i = i} (omega arith))
+-- the refusal is that of the place found
+pub bad_place : (k : ℕ) (ls ms : List ℕ) {r s : Option ℕ} → r ≡ s →
+    r ≡ position_from bad_pair 0 (zip ls ms) →
+    at_place 10 k s ≡ bounds_refused k (bounds_of ls ms)
+bad_place k ls ms p q =
+    by_place 10 bad_pair (λ (j : ℕ) (ps : List (ℕ × ℕ)). bounds_refused j (map bounds_pair ps))
+    (λ j. refl)
+    (λ j x xs e. by_test j (bounds_pair x) (map bounds_pair xs) true (sym e))
+    (λ j x xs e. by_test j (bounds_pair x) (map bounds_pair xs) false (sym e))
+    k (zip ls ms) p q
+    ∙ ap (bounds_refused k) (bounds_zip ls ms)
 
 -- where refusal 10 does not hold, it is none
 pub bounds_none : (k : ℕ) (ws : List Bounds) → is_none (bounds_refused k ws) ≡ true → bounds_refused k ws ≡ none

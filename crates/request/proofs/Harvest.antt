@@ -1,21 +1,21 @@
 -- Refusal 6 of a list one frame at a time, what its absence says of every harvest, and the sum of a list.
-use mathlib.Core.Path.{◌≡◌, refl, sym, ap, ◌∙◌}
+use mathlib.Core.Path.{◌≡◌, refl, ap, ◌∙◌}
 use mathlib.Core.Bool.{Bool, true, false, false≢true}
 use mathlib.Core.List.{List, [], ◌∷◌}
 use Prim.Native.Nat.{ℕ, zero, suc, ◌+◌, ◌-◌, ◌*◌, ◌≤◌, ◌<◌}
 use native.Mathlib.Nat.{mul-le-mul_left}
 use native.Mathlib.Omega.{arith}
-use native.Mathlib.Numerals.{add-one}
-use lib.Dec.{ltb}
-use lib.ListN.{length, get_or, drop, drop_of_length-le}
-use lib.Seq.{drop-cons}
-use borrow.Author.Tests.{lt-ltb, le-ltb, ltb-false}
+use lib.Dec.{ltb, eqb}
+use lib.ListN.{length, get_or}
+use borrow.Author.Tests.{ltb-true, ltb-false, eqb-true, eqb-false}
+use Rattle.std.proofs.Common.{Option}
+use Rattle.std.specs.List.{position_from, fold, sum}
 use Rattle.model.specs.Refusals.{Refusal}
 use Rattle.model.specs.Limits.{max_frames, max_harvest}
 use Rattle.model.specs.Choice.{pick}
-use Rattle.model.proofs.Choice.{pick_by}
 use Rattle.model.specs.Request.{Request, total, most_energy}
 use Rattle.model.specs.Refusals.{refusal, none, is_none, harvest_over_limit, out_of_reach}
+use Rattle.request.proofs.Place.{at_place, by_place}
 
 -- the first frame decides by its test
 by_test : (k h : ℕ) (hs : List ℕ) (t : Bool) → ltb max_harvest h ≡ t
@@ -24,25 +24,12 @@ by_test : (k h : ℕ) (hs : List ℕ) (t : Bool) → ltb max_harvest h ≡ t
 by_test k h hs t e =
     ap (λ (u : Bool). elim u as (λ _. Refusal) [ true ↦ refusal 6 k | false ↦ harvest_over_limit (suc k) hs ]) e
 
--- a harvest over the limit is the one refused
-pub over_here : (k i : ℕ) (hs : List ℕ) → i < length hs → max_harvest < get_or hs i 0 →
-    harvest_over_limit k (drop i hs) ≡ refusal 6 k
-over_here k i hs l b =
-    ap (harvest_over_limit k) (drop-cons hs i 0 l)
-    ∙ by_test k (get_or hs i 0) (drop (suc i) hs) true (lt-ltb max_harvest (get_or hs i 0) b)
-
--- a harvest within the limit is passed over
-pub over_later : (k i : ℕ) (hs : List ℕ) → i < length hs → get_or hs i 0 ≤ max_harvest
-    → harvest_over_limit (k + (i + 1)) (drop (i + 1) hs) ≡ harvest_over_limit (k + i) (drop i hs)
-over_later k i hs l b =
-    let n : k + (i + 1) ≡ suc (k + i) = omega arith in
-    rw (n, add-one i) (sym
-    (ap (harvest_over_limit (k + i)) (drop-cons hs i 0 l)
-    ∙ by_test (k + i) (get_or hs i 0) (drop (suc i) hs) false (le-ltb max_harvest (get_or hs i 0) b)))
-
--- past the last frame nothing is refused
-pub over_never : (k i : ℕ) (hs : List ℕ) → i ≡ length hs → harvest_over_limit k (drop i hs) ≡ none
-over_never k i hs e = ap (harvest_over_limit k) (drop_of_length-le hs {i = i} (omega arith))
+-- the refusal is that of the place found
+pub over_place : (k : ℕ) (hs : List ℕ) {r s : Option ℕ} → r ≡ s → r ≡ position_from (ltb max_harvest) 0 hs →
+    at_place 6 k s ≡ harvest_over_limit k hs
+over_place =
+    by_place 6 (ltb max_harvest) harvest_over_limit (λ k. refl) (λ k h hs e. by_test k h hs true e)
+    (λ k h hs e. by_test k h hs false e)
 
 -- no refusal 6 has P 0
 pub over_none : (k : ℕ) (hs : List ℕ) → is_none (harvest_over_limit k hs) ≡ true → harvest_over_limit k hs ≡ none
@@ -79,27 +66,43 @@ pub total_fits : (hs : List ℕ) → ((i : ℕ) → get_or hs i 0 ≤ max_harves
     total hs ≤ max_harvest * max_frames
 total_fits hs h k = omega (arith, total_small max_harvest hs h, mul-le-mul_left max_harvest k)
 
--- one more entry of a list summed
-pub total_more : (i : ℕ) (hs : List ℕ) → i < length hs → total (drop i hs) ≡ get_or hs i 0 + total (drop (i + 1) hs)
-total_more i hs l = rw (add-one i) (ap total (drop-cons hs i 0 l))
+-- the sum as the library has it
+pub added_up : (a : ℕ) (xs : List ℕ) → fold ◌+◌ a xs ≡ a + total xs
+added_up a [] = omega arith
+added_up a (x ∷ xs) = let i = added_up (a + x) xs in i ∙ omega arith
 
--- every entry summed
-pub total_over : (i : ℕ) (hs : List ℕ) → length hs ≤ i → total (drop i hs) ≡ 0
-total_over i hs l = ap total (drop_of_length-le hs {i = i} l)
+pub total_is_sum : (xs : List ℕ) → sum xs ≡ total xs
+total_is_sum xs = let i = added_up 0 xs in i ∙ omega arith
 
--- where what is summed so far reaches the end charge, refusal 9 does not hold
-pub reached : (r : Request) (x rest : ℕ) → x + rest ≡ most_energy r → r.figures.end ≤ x → none ≡ out_of_reach r
-reached r x rest e l =
-    sym (pick_by (ltb (most_energy r) r.figures.end) false (refusal 9 (r.figures.end - most_energy r)) none
-    (le-ltb (most_energy r) r.figures.end (omega arith)))
+-- numbers below a bound add up below its product with how many they are
+pub total_below : (m : ℕ) (xs : List ℕ) → ((i : ℕ) → get_or xs i 0 < m) → total xs ≤ m * length xs
+total_below m xs h = total_small m xs (λ i. let l = h i in omega arith)
 
--- where the whole sum is below the end charge, refusal 9 holds
-pub missed : (r : Request) (x : ℕ) → x ≡ most_energy r → x < r.figures.end →
-    refusal 9 (r.figures.end - x) ≡ out_of_reach r
-missed r x e l =
-    ap (λ (y : ℕ). refusal 9 (r.figures.end - y)) e
-    ∙ sym (pick_by (ltb (most_energy r) r.figures.end) true (refusal 9 (r.figures.end - most_energy r)) none
-    (lt-ltb (most_energy r) r.figures.end (omega arith)))
+-- taking all off one after the other takes their sum off
+pub taken_off : (w : ℕ) (xs : List ℕ) → fold (λ v x. v - x) w xs ≡ w - total xs
+taken_off w [] = omega arith
+taken_off w (x ∷ xs) = let i = taken_off (w - x) xs in i ∙ omega arith
+
+-- refusal 9 by what is left of the end charge
+pub reach_left : (r : Request) (left : ℕ) → left ≡ (r.figures.end - r.figures.start) - total r.harvest →
+    pick (eqb left 0) none (refusal 9 left) ≡ out_of_reach r
+reach_left r left e =
+    let m = most_energy r in
+    let f = r.figures.end in
+    let l : left ≡ f - m = omega arith in
+    rw l (go (ltb m f) refl (eqb (f - m) 0) refl)
+  where
+    m : ℕ
+    m = most_energy r
+
+    p : ℕ
+    p = r.figures.end - most_energy r
+
+    go : (t : Bool) → ltb m r.figures.end ≡ t → (u : Bool) → eqb p 0 ≡ u → pick u none (refusal 9 p) ≡ pick t (refusal 9 p) none
+    go true q true s = let z : p ≡ 0 = eqb-true p 0 s in let l = ltb-true m r.figures.end q in absurd (omega arith)
+    go true q false s = refl
+    go false q true s = refl
+    go false q false s = let z = eqb-false p 0 s in let l = ltb-false m r.figures.end q in absurd (z (omega arith))
 
 -- no refusal 9 has P 0
 pub reach_none : (r : Request) → is_none (out_of_reach r) ≡ true → out_of_reach r ≡ none

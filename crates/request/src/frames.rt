@@ -1,20 +1,23 @@
 // Refusals 1, 2 and 7: how many frames there are, and whether a lent list has one entry for each.
 ghost use Rattle.std.specs.Prelude.{◌≡◌};
+ghost use Rattle.model.specs.Answer.{refused};
 ghost use Rattle.model.specs.Refusals.{first_of, frames_refusals, wrong_length};
 
-use crate::refusals::{first_of, refuse_if};
+use crate::refusals::check_that;
+use model::Refusal;
 use model::limits::MAX_FRAMES;
 
 // Refusals 1 and 2 of a number of frames.
-pub fn frames_refusal(frames: usize) -> model::Refusal
-    ensures { result ≡ first_of (frames_refusals frames) }
+pub fn check_frames(frames: usize) -> Result<(), Refusal>
+    ensures { refused result ≡ first_of (frames_refusals frames) }
 {
-    first_of(refuse_if(frames == 0, 1), refuse_if(frames > MAX_FRAMES, 2))
+    check_that(frames != 0, Refusal::NoFrames)?;
+    check_that(frames <= MAX_FRAMES, Refusal::TooManyFrames)
 }
 
 // Refusal 7 of a lent list with this length.
-pub fn length_refusal(frames: usize, length: usize) -> model::Refusal
-    ensures { result ≡ wrong_length frames length }
+pub fn check_length(frames: usize, length: usize) -> Result<(), Refusal>
+    ensures { refused result ≡ wrong_length frames length }
 {
-    refuse_if(length != frames, 7)
+    check_that(length == frames, Refusal::WrongLength)
 }

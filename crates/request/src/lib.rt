@@ -1,7 +1,7 @@
 // The refusals that several entries share, as code over lent lists: each function answers what model's definition of
 // that refusal says. All of it is inner: the entries of other crates call it. First the whole order of planning, the
 // needed capacity, tracing and a shift's start, then its parts.
-#![tactic(auto)]
+#![tactic(auto, using(model::proofs::Answer::told_some))]
 
 mod bounds;
 mod entries;
@@ -11,10 +11,10 @@ mod reach;
 mod refusals;
 mod sums;
 
-pub use bounds::bounds_refusal;
-pub use entries::{lent_refusal, needed_refusal, plan_refusal, start_refusal, trace_refusal};
-pub use figures::{figures_refusal, harvest_refusal};
-pub use frames::{frames_refusal, length_refusal};
-pub use reach::unreachable_refusal;
-pub use refusals::{first_of, is_none, refuse_if};
+pub use bounds::check_bounds;
+pub use entries::{check_lent, check_needed, check_plan, check_start, check_trace};
+pub use figures::{check_figures, check_harvest};
+pub use frames::{check_frames, check_length};
+pub use reach::check_reachable;
+pub use refusals::check_that;
 pub use sums::sum;

@@ -1,37 +1,26 @@
 // Refusals 9 and 11: whether the end charge is in reach, and whether the leasts taken as budgets are feasible.
 ghost use Rattle.std.specs.Prelude.{◌≡◌, ◌+◌, ◌*◌, ◌≤◌, length};
+ghost use Rattle.model.specs.Answer.{refused, asked};
 ghost use Rattle.model.specs.Limits.{max_capacity, max_frames, max_harvest};
-ghost use Rattle.model.specs.Request.{request, bounded_request};
+ghost use Rattle.model.specs.Request.{request};
 ghost use Rattle.model.specs.Charge.{feasible_from};
 ghost use Rattle.model.specs.Refusals.{bound_refusals, first_of, out_of_reach};
 ghost use Rattle.request.specs.Reach.{unreachable_by};
 
-use crate::bounds::bounds_refusal;
-use crate::refusals::{is_none, refuse_if};
+use crate::bounds::check_bounds;
+use crate::refusals::check_that;
 use model::frame::{at_hand, charge_after};
-use model::{Figures, Refusal};
+use model::{Figures, Refusal, Request};
 
-// Refusal 9, whose P is the amount missing. The sum stops where it reaches the end charge.
-pub fn reach_refusal(figures: Figures, harvest: &[u32]) -> Refusal
-    ensures { result ≡ out_of_reach (request figures harvest.now) }
+// Refusal 9, whose P is the amount missing: what is left of the end charge when start and harvest are taken off.
+pub fn check_reach(figures: Figures, harvest: &[u32]) -> Result<(), Refusal>
+    ensures { refused result ≡ out_of_reach (request figures harvest.now) }
 {
-    let goal = figures.end as u64;
-    let mut reach = figures.start as u64;
-    let mut i: usize = 0;
-    loop {
-        if reach >= goal {
-            return Refusal { number: 0, p: 0 };
-        }
-        if i == harvest.len() {
-            break;
-        }
-        reach += harvest[i] as u64;
-        i += 1;
-    }
-    Refusal {
-        number: 9,
-        p: goal - reach,
-    }
+    let wanted = figures.end.saturating_sub(figures.start);
+    let missing = harvest
+        .iter()
+        .fold(wanted, |left, h| left.saturating_sub(*h));
+    check_that(missing == 0, Refusal::OutOfReach(missing as u64))
 }
 
 // Whether the leasts can be drawn as budgets.
@@ -41,15 +30,11 @@ fn leasts_drawable(figures: Figures, harvest: &[u32], least: &[u32]) -> bool
         least.now }
 {
     let mut charge = figures.start;
-    let mut i: usize = 0;
-    while i < harvest.len() {
-        let h = harvest[i];
-        let b = least[i];
-        if at_hand(figures.capacity, charge, h) < b as u64 {
+    for (h, b) in harvest.iter().zip(least) {
+        if at_hand(figures.capacity, charge, *h) < *b as u64 {
             return false;
         }
-        charge = charge_after(figures.capacity, charge, h, b);
-        i += 1;
+        charge = charge_after(figures.capacity, charge, *h, *b);
     }
     figures.end <= charge
 }
@@ -63,27 +48,23 @@ pub fn open_store(start: u32, all: u64) -> u32
 }
 
 // Refusals 9 and 11 where the leasts are within the bounds: 11 is whether they can be drawn.
-pub fn unreachable_refusal(figures: Figures, harvest: &[u32], least: &[u32]) -> Refusal
+pub fn check_reachable(figures: Figures, harvest: &[u32], least: &[u32]) -> Result<(), Refusal>
     requires { length least.now ≡ length harvest.now }
-    ensures { result ≡ first_of (unreachable_by figures harvest.now least.now) }
+    ensures { refused result ≡ first_of (unreachable_by figures harvest.now least.now) }
 {
-    let reach = reach_refusal(figures, harvest);
-    if !is_none(reach) {
-        return reach;
-    }
-    let drawable = leasts_drawable(figures, harvest, least);
-    refuse_if(!drawable, 11)
+    check_reach(figures, harvest)?;
+    check_that(
+        leasts_drawable(figures, harvest, least),
+        Refusal::LeastsOutOfReach,
+    )
 }
 
 // Refusals 10, 9 and 11 of a request. Leasts that 10 lets pass are within the bounds.
-pub fn bound_refusal(figures: Figures, harvest: &[u32], least: &[u32], most: &[u32]) -> Refusal
-    requires { (length least.now ≡ length harvest.now) × (length most.now ≡ length harvest.now) }
-    ensures { result ≡ first_of (bound_refusals (bounded_request figures harvest.now least.now
-        most.now)) }
+pub fn check_bounded(request: Request) -> Result<(), Refusal>
+    requires least_len { length request.lists.least.now ≡ length request.lists.harvest.now }
+    requires most_len { length request.lists.most.now ≡ length request.lists.harvest.now }
+    ensures { refused result ≡ first_of (bound_refusals (asked request.entry)) }
 {
-    let bounds = bounds_refusal(least, most, 1);
-    if !is_none(bounds) {
-        return bounds;
-    }
-    unreachable_refusal(figures, harvest, least)
+    check_bounds(request.lists.least, request.lists.most, 1)?;
+    check_reachable(request.figures, request.lists.harvest, request.lists.least)
 }

@@ -1,32 +1,14 @@
-// Making a refusal, and choosing the first one.
+// The one step that all checks are made of.
 ghost use Rattle.std.specs.Prelude.{◌≡◌};
+ghost use Rattle.model.specs.Answer.{refused, told};
 ghost use Rattle.model.specs.Choice.{pick};
-ghost use Rattle.model.specs.Refusals.{is_none, refuse_if};
+ghost use Rattle.model.specs.Refusals.{none};
 
-// Whether a refusal is none.
-pub fn is_none(f: model::Refusal) -> bool
-    ensures { result ≡ is_none f }
-{
-    f.number == 0
-}
+use model::Refusal;
 
-// This refusal with P 0, if the test holds.
-pub fn refuse_if(test: bool, number: u32) -> model::Refusal
-    ensures { result ≡ refuse_if test number }
+// Refused where the test fails.
+pub fn check_that(holds: bool, refusal: Refusal) -> Result<(), Refusal>
+    ensures { refused result ≡ pick holds none (told refusal) }
 {
-    if test {
-        model::Refusal {
-            number: number,
-            p: 0,
-        }
-    } else {
-        model::Refusal { number: 0, p: 0 }
-    }
-}
-
-// The first of two refusals that is not none.
-pub fn first_of(f: model::Refusal, g: model::Refusal) -> model::Refusal
-    ensures { result ≡ pick (is_none f) g f }
-{
-    if is_none(f) { g } else { f }
+    if holds { Ok(()) } else { Err(refusal) }
 }

@@ -8,11 +8,5 @@ pub fn sum(list: &[u32]) -> u64
     ensures is { result ≡ total list.now }
     ensures below { result < 2 ^ 63 }
 {
-    let mut sum: u64 = 0;
-    let mut i: usize = 0;
-    while i < list.len() {
-        sum += list[i] as u64;
-        i += 1;
-    }
-    sum
+    list.iter().map(|entry| *entry as u64).sum()
 }

@@ -1,13 +1,14 @@
 -- What is left of the lists is feasible from the charge reached where the whole is from the start.
-use Rattle.std.proofs.Common.{length, drop, ◌-◌, ◌≡◌, ◌≤◌}
+use Rattle.std.proofs.Common.{length, ◌≡◌}
 use Rattle.model.specs.Charge.{feasible_from}
 use Rattle.request.proofs.reach.leasts_drawable.Given as goal
 
-abbrev pub invariant-loop-i : goal.invariant-loop-i
-invariant-loop-i l =
-    (l.i ≤ length l.harvest)
-    × (feasible_from l.figures.capacity l.figures.end l.charge (drop l.i l.harvest) (drop l.i l.least)
+abbrev pub invariant-loop-h : goal.invariant-loop-h
+invariant-loop-h l =
+    let hs = l.h-iterator.a.rest.now in
+    let ls = l.h-iterator.b.rest.now in
+    (goal.iterator-loop-h).can_next l.h-iterator
+    × (goal.iterator-loop-h).is_finite l.h-iterator
+    × (length ls ≡ length hs)
+    × (feasible_from l.figures.capacity l.figures.end l.charge hs ls
     ≡ feasible_from l.figures.capacity l.figures.end l.figures.start l.harvest l.least)
-
-abbrev pub decreases-loop-i : goal.decreases-loop-i
-decreases-loop-i l = length l.harvest - l.i
