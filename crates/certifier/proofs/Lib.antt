@@ -1,7 +1,7 @@
 -- The laws behind the functions' proofs.
 pub mod Lists
 pub mod Reserve
-pub mod Frames
+pub mod Reading
 pub mod Course
 pub mod Weights
 pub mod Steps

@@ -1,9 +1,8 @@
 -- The backward pass: what it holds before a frame, and that one frame more keeps it.
 use mathlib.Core.Path.{◌≡◌, refl, sym, ◌∙◌}
-use mathlib.Core.Bool.{false}
 use mathlib.Core.Logic.{⊎_elim}
 use mathlib.Core.List.{List, ◌∷◌}
-use Prim.Native.Nat.{ℕ, ◌+◌, ◌-◌, ◌≤◌, ◌<◌, ◌^◌, min}
+use Prim.Native.Nat.{ℕ, ◌+◌, ◌≤◌, ◌<◌, min}
 use native.Mathlib.Nat.{le_refl, min-le_left}
 use native.Mathlib.Omega.{arith}
 use lib.ListN.{length, drop, set, get_or, drop_of_length-le}
@@ -11,10 +10,10 @@ use Rattle.model.specs.Frames.{Frame, reserve}
 use Rattle.model.proofs.Order.{le_or_lt}
 use Rattle.model.proofs.Reserve.{reserve_grows}
 use Rattle.certifier.specs.declared.frame.At.{At}
-use Rattle.certifier.specs.declared.backward.Weight.{Weight}
+use Rattle.certifier.specs.declared.weight.Weight.{Weight}
 use Rattle.certifier.specs.Frame.{frame, Read}
 use Rattle.certifier.specs.Course.{Bounded, Steady, Turn, Turns, CourseFrom, StartsFrom}
-use Rattle.certifier.specs.Says.{Light, TurnedAt, WeighedAt}
+use Rattle.certifier.specs.Says.{TurnedAt, WeighedAt}
 use Rattle.certifier.proofs.Lists.{drop_next, drop_put}
 use Rattle.certifier.proofs.Course.{reserve_frame, enters}
 
@@ -44,15 +43,10 @@ pub past_course : (e : ℕ) (fs : List Frame) (k : ℕ) (ls rs : List ℕ) → l
 unfolding CourseFrom
 past_course e fs k ls rs p = rw (drop_of_length-le fs {i = k} p) tt
 
--- no reserve is above what the store can take over
-weighed_light : {f : At} {l : ℕ} {w v : Weight} → WeighedAt f l w v → f.ceiling - f.inflow < 2 ^ 32 → Light v
-weighed_light weighed fits =
-    record { low_fits = omega (arith, weighed.low_is, fits); high_fits = omega (arith, weighed.high_is, fits) }
-
 -- what a level before frame k reserves there
 module _ {e : ℕ} {fs : List Frame} {k : ℕ} {ls : List ℕ} (w : Weight)
     (holds : Holds e fs k ls w.level w.low w.high w.gap) (l : ℕ) {low high : ℕ}
-    (turned : TurnedAt l w (record { low = low; high = high; broken = false })) where
+    (turned : TurnedAt l w low high) where
   -- at a level x: l itself or one more
   turned_at : (x v : ℕ) → (l < w.level → (w.low ≡ 0) × (v ≡ 0) × (x ≤ w.level)) →
       (w.level < l → (w.gap ≤ w.high) × (v ≡ w.high) × (w.level + 1 ≤ x)) →
@@ -154,5 +148,5 @@ module _ {e : ℕ} {fs : List Frame} {k : ℕ} {ls : List ℕ} (f : At) (l : ℕ
 
   -- all that the loop keeps
   pub weighed_on : (rs : List ℕ) → k < length rs → CourseFrom e fs (k + 1) ls rs →
-      Light v × Holds e fs k ls v.level v.low v.high v.gap × CourseFrom e fs k ls (set rs k v.after)
-  weighed_on rs p c = (weighed_light weighed read.plain.store_fits, weighed_holds, weighed_course rs p c)
+      Holds e fs k ls v.level v.low v.high v.gap × CourseFrom e fs k ls (set rs k v.after)
+  weighed_on rs p c = (weighed_holds, weighed_course rs p c)

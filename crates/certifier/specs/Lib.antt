@@ -3,4 +3,7 @@ pub mod Frame
 pub mod Course
 pub mod Caught
 pub mod Steps
+pub mod Readable
+pub mod Able
 pub mod Says
+pub mod Draft

@@ -1,6 +1,6 @@
 // What makes a plan right: levels, one for each frame, that pass one backward check (`certify`) give the plan's
 // budgets in one forward pass (`follow`), however they were found (`by_levels`). Besides, what the budgets of a plan
-// require (`peak_requirement`). All over any frames, which `frame_at` reads.
+// require (`peak_requirement`). All over any frames, which `Frames` reads.
 //
 // The source is Lemma 6 of Moser, Chen and Thiele, "Reward Maximization for Embedded Systems with Renewable
 // Energies": consumption rises only where the store is empty and falls only where it is full. What differs: budgets
@@ -9,11 +9,16 @@
 #![tactic(auto)]
 
 mod backward;
+mod draft;
 mod forward;
 mod frame;
-mod levels;
+mod frames;
+mod old;
 mod requirement;
+mod weight;
 
-pub use frame::{At, Rule, draw, frame_at, gap, has, inflow_at};
-pub use levels::by_levels;
+pub use draft::Draft;
+pub use frame::{At, Rule};
+pub use frames::Frames;
+pub use old::{draw, frame_at, gap, has, inflow_at};
 pub use requirement::peak_requirement;

@@ -1,32 +1,21 @@
 // What budgets require of the store.
 ghost use Rattle.std.specs.Prelude.{◌≡◌, ◌<◌, ◌^◌, length};
 ghost use Rattle.model.specs.Frames.{peak};
-ghost use Rattle.certifier.specs.Says.{Readable, frames};
+ghost use Rattle.certifier.specs.Says.{frames_in, frame_count};
 
-use super::frame::{Rule, frame_at};
-use numbers::{greater, less, wide};
+use super::frames::Frames;
 
 // The greatest charge that the budgets require after any frame.
-pub fn peak_requirement(
-    rule: Rule,
-    harvest: &[u32],
-    least: &[u32],
-    most: &[u32],
-    budgets: &[u32],
-) -> u64
-    requires { Readable rule harvest.now least.now most.now × (length budgets.now ≡ length harvest.now) ×
-        (length harvest.now < 2 ^ 20) }
-    ensures { result ≡ peak rule.end (frames rule harvest.now least.now
-        most.now) budgets.now }
+pub fn peak_requirement(frames: Frames, budgets: &[u32]) -> u64
+    requires { (length budgets.now ≡ frame_count frames) × (frame_count frames < 2 ^ 20) }
+    ensures { result ≡ peak frames.entry.rule.end (frames_in frames.entry) budgets.now }
 {
-    let mut charge = rule.end;
+    let mut charge = frames.rule.end;
     let mut top = 0;
-    let mut k = harvest.len();
-    while 0 < k {
-        k -= 1;
-        let f = frame_at(rule, harvest, least, most, k);
-        top = greater(charge, top);
-        charge = less(f.drain + wide(budgets[k]) + charge, f.inflow);
+    for k in (0..frames.count()).rev() {
+        let f = frames.at(k);
+        top = charge.max(top);
+        charge = (f.drain + budgets[k] as u64 + charge).saturating_sub(f.inflow);
     }
     top
 }

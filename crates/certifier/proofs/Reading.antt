@@ -1,15 +1,15 @@
 -- The frames of a request, read one by one.
 use mathlib.Core.Path.{◌≡◌, refl, ap}
 use mathlib.Core.List.{List, [], ◌∷◌}
-use Prim.Native.Nat.{ℕ, zero, suc, ◌+◌, ◌<◌, ◌≤◌, ◌^◌}
+use Prim.Native.Nat.{ℕ, zero, suc, ◌+◌, ◌<◌, ◌≤◌}
 use native.Mathlib.Numerals.{add-one}
 use native.Mathlib.Omega.{arith}
 use lib.ListN.{length, drop, get_or}
 use Rattle.model.specs.Request.{Bounds, bounds, bounds_of, later_bounds}
 use Rattle.model.specs.Plan.{most_of, frame_of, frames_of}
-use Rattle.certifier.specs.Frame.{Read}
-use Rattle.certifier.specs.declared.frame.Rule.{Rule}
-use Rattle.certifier.specs.Says.{Readable, frames}
+use Rattle.certifier.specs.Frame.{frame}
+use Rattle.certifier.specs.declared.frames.Frames.{Frames}
+use Rattle.certifier.specs.Says.{frames_in, frame_count}
 
 -- there is a frame for each harvest
 frames_length : (c m : ℕ) (hs : List ℕ) (ws : List Bounds) → length (frames_of c m hs ws) ≡ length hs
@@ -30,24 +30,18 @@ frames_suc c m (suc i) (h ∷ hs) (l ∷ ls) (n ∷ ms) p q k =
     frames_suc c m i hs ls ms (omega arith) (omega arith) (omega arith)
 
 -- what the code's reading of frame i gives
-pub frames_read : (r : Rule) (hs ls ms : List ℕ) (i h lo hi : ℕ) → Readable r hs ls ms → i < length hs →
-    h ≡ get_or hs i 0 → h < 2 ^ 32 → lo ≡ get_or ls i 0 → lo < 2 ^ 32 →
-    hi ≡ most_of r.energy (bounds 0 (get_or ms i 0)) → hi < 2 ^ 32 →
-    Read (frames r hs ls ms) i h (r.capacity + h) 0 lo hi
-frames_read r hs ls ms i h lo hi s l q k v w x y =
-    record {
-      is = rw (q, v, x, add-one i)
-          (frames_suc r.capacity r.energy i hs ls ms s.leasts_long s.mosts_long l);
-      plain = record {
-        inflow_fits = k;
-        ceiling_fits = omega (arith, s.small.capacity_fits);
-        store_fits = omega (arith, s.small.capacity_fits);
-        drain_fits = omega arith;
-        least_fits = w;
-        most_fits = y;
-      };
-    }
+pub frames_read : (fs : Frames) (i hi : ℕ) → i < frame_count fs →
+    hi ≡ most_of fs.rule.energy (bounds 0 (get_or fs.lists.most.now i 0)) →
+    drop i (frames_in fs)
+    ≡ frame (get_or fs.lists.harvest.now i 0) (fs.rule.capacity + get_or fs.lists.harvest.now i 0) 0
+    (get_or fs.lists.least.now i 0) hi
+    ∷ drop (i + 1) (frames_in fs)
+frames_read fs i hi l x =
+    rw (x, add-one i)
+    (frames_suc fs.rule.capacity fs.rule.energy i fs.lists.harvest.now fs.lists.least.now fs.lists.most.now
+    fs.readable.leasts_long fs.readable.mosts_long l)
 
 -- past the last harvest there is no frame
-pub frames_past : (r : Rule) (hs ls ms : List ℕ) (k : ℕ) → length hs ≤ k → length (frames r hs ls ms) ≤ k
-frames_past r hs ls ms k h = rw (frames_length r.capacity r.energy hs (bounds_of ls ms)) h
+pub frames_past : (fs : Frames) (k : ℕ) → frame_count fs ≤ k → length (frames_in fs) ≤ k
+frames_past fs k h =
+    rw (frames_length fs.rule.capacity fs.rule.energy fs.lists.harvest.now (bounds_of fs.lists.least.now fs.lists.most.now)) h

@@ -1,0 +1,62 @@
+// How a request becomes frames. `Frames::at` alone knows the charge rule; all else works on any frame.
+ghost use Rattle.std.specs.Prelude.{◌≡◌, ◌<◌, ◌^◌};
+ghost use Rattle.model.specs.Request.{bounds};
+ghost use Rattle.model.specs.Plan.{most_of};
+ghost use Rattle.certifier.specs.Readable.{Readable};
+
+use super::frame::{At, Rule};
+use model::Lists;
+use model::limits::NO_UPPER_END;
+
+// Frames that can be read: figures of 32 bits, and a harvest, a least and a most for each frame.
+#[derive(Clone, Copy)]
+pub struct Frames<'a> {
+    pub rule: Rule,
+    pub lists: Lists<'a>,
+    pub ghost readable: { Readable rule lists.harvest.now lists.least.now lists.most.now },
+}
+
+impl<'a> Frames<'a> {
+    ghost use Rattle.certifier.specs.Says.{frame_count, ReadIn};
+
+    // The frames of lists by a rule.
+    pub fn of(rule: Rule, lists: Lists<'a>) -> Frames<'a>
+        requires { Readable rule lists.harvest.now lists.least.now lists.most.now }
+        ensures { (result.rule ≡ rule) × (result.lists ≡ lists.entry) }
+    {
+        Frames { rule, lists }
+    }
+
+    // How many there are.
+    pub fn count(self) -> usize
+        ensures { result ≡ frame_count self.entry }
+    {
+        self.lists.harvest.len()
+    }
+
+    // Frame i: what is carried in above the capacity is cut off, and the harvest comes on top.
+    pub fn at(self, i: usize) -> At
+        requires { i < frame_count self }
+        ensures { ReadIn self.entry i result }
+    {
+        let inflow = self.lists.harvest[i] as u64;
+        At {
+            inflow,
+            ceiling: self.rule.capacity + inflow,
+            drain: 0,
+            least: self.lists.least[i] as u64,
+            most: most_of(self.rule.energy, self.lists.most[i]),
+        }
+    }
+}
+
+// The most of a frame; all energy where there is no upper end.
+fn most_of(energy: u64, most: u32) -> u64
+    requires { energy < 2 ^ 32 }
+    ensures { (result ≡ most_of energy (bounds 0 most)) × (result < 2 ^ 32) }
+{
+    if most == NO_UPPER_END {
+        return energy;
+    }
+    most as u64
+}
