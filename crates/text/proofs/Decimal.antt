@@ -1,13 +1,13 @@
 -- The number of digits that the kit writes is the number of digits, and a number below 10 ^ k has at most k.
-use mathlib.Core.Path.{◌≡◌, refl, ap, ◌∙◌}
+use mathlib.Core.Path.{◌≡◌, refl, ap}
 use mathlib.Core.Bool.{Bool, true, false}
 use Prim.Native.Nat.{ℕ, zero, suc, ◌-◌, ◌*◌, ◌/◌, ◌%◌, ◌^◌, ◌≤◌, ◌<◌}
 use native.Mathlib.Omega.{arith}
 use native.Mathlib.Nat.{pow-suc, pow-le-pow_right}
 use native.Mathlib.Decide.{dec_le}
-use mathlib.Core.List.{List, [], ◌∷◌}
+use mathlib.Core.List.{[], ◌∷◌}
 use lib.Dec.{ltb}
-use lib.ListN.{length, take, length-append}
+use lib.ListN.{length, length-append}
 use borrow.Author.Tests.{ltb-true, ltb-false}
 use Rattle.io.specs.Digits.{hex_digit_ascii, last_digits, IsDigitCount}
 use Rattle.text.specs.Decimal.{places_in, decimal}
@@ -58,12 +58,6 @@ places_in_lem (suc f) n l = go (ltb n 10) refl (λ g. places_in_lem f (n / 10) g
 pub digits_are : (n k : ℕ) → IsDigitCount 10 1 n k → last_digits 10 k n ≡ decimal n
 unfolding decimal
 digits_are n k a = ap (λ (j : ℕ). last_digits 10 j n) (one_fewest n k (places_in n n) a (places_in_lem n n (omega arith)))
-
--- the same, of the part of a list that holds the kit's digits
-pub digits_part : (n k : ℕ) (xs : List ℕ) → IsDigitCount 10 1 n k → take k xs ≡ last_digits 10 k n → take (k - 0) xs ≡ decimal n
-digits_part n k xs a e =
-    let z : k - 0 ≡ k = omega arith in
-    rw z (e ∙ digits_are n k a)
 
 -- so many digits are so long
 pub digits_length : (b k n : ℕ) → length (last_digits b k n) ≡ k

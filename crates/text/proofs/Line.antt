@@ -6,10 +6,10 @@ use mathlib.Core.List.{List, [], ◌∷◌, ◌++◌}
 use Prim.Native.Nat.{ℕ, suc, ◌+◌, ◌^◌, ◌≤◌, ◌<◌}
 use native.Mathlib.Numerals.{add-one}
 use native.Mathlib.Omega.{arith}
-use lib.Dec.{eqb, ltb}
+use lib.Dec.{eqb}
 use lib.ListN.{length, get_or, drop, length-append, drop_of_length-le}
 use lib.Seq.{drop-cons}
-use borrow.Author.Tests.{eq-eqb, ne_eqb, ltb-true, ltb-false}
+use borrow.Author.Tests.{eq-eqb, ne_eqb}
 use Rattle.text.specs.Decimal.{decimal}
 use Rattle.text.specs.Line.{gap, line_of, room_of}
 use Rattle.text.proofs.Decimal.{decimal_length}
@@ -34,21 +34,22 @@ pub line_gap : (b : ℕ) (p : List ℕ) (n : ℕ) (ns : List ℕ) → eqb b gap 
 unfolding line_of
 line_gap b p n ns e = rw (e, line_of) refl
 
--- the same, from a byte and a figure of the lists on
-module _ (p ns : List ℕ) (i k : ℕ) (l : i < length p) where
-  pub at_gap : get_or p i 0 ≡ gap → ltb k (length ns) ≡ true →
-      line_of (drop i p) (drop k ns) ≡ decimal (get_or ns k 0) ++ line_of (drop (i + 1) p) (drop (k + 1) ns)
-  at_gap e m =
-      rw (drop-cons p i 0 l, drop-cons ns k 0 (ltb-true k (length ns) m), add-one i, add-one k)
-      (line_gap (get_or p i 0) (drop (suc i) p) (get_or ns k 0) (drop (suc k) ns) (eq-eqb (get_or p i 0) gap e))
+-- the same, from a byte of a list on
+module _ (p ns : List ℕ) (i : ℕ) (l : i < length p) where
+  pub at_gap : (n : ℕ) (rest : List ℕ) → get_or p i 0 ≡ gap → ns ≡ n ∷ rest →
+      line_of (drop i p) ns ≡ decimal n ++ line_of (drop (i + 1) p) rest
+  at_gap n rest e m =
+      rw (drop-cons p i 0 l, m, add-one i)
+      (line_gap (get_or p i 0) (drop (suc i) p) n rest (eq-eqb (get_or p i 0) gap e))
 
-  pub at_byte : (get_or p i 0 ≡ gap → ⊥) ⊎ (ltb k (length ns) ≡ false) →
-      line_of (drop i p) (drop k ns) ≡ (get_or p i 0 ∷ []) ++ line_of (drop (i + 1) p) (drop k ns)
-  at_byte (inl f) =
-      rw (drop-cons p i 0 l, add-one i)
-      (line_byte (get_or p i 0) (drop (suc i) p) (drop k ns) (ne_eqb (get_or p i 0) gap f))
-  at_byte (inr m) =
-      rw (drop_of_length-le ns {i = k} (ltb-false k (length ns) m), drop-cons p i 0 l, add-one i)
+  pub at_byte : (rest : List ℕ) → ((get_or p i 0 ≡ gap → ⊥) ⊎ (length ns ≡ 0)) × (rest ≡ ns) →
+      line_of (drop i p) ns ≡ (get_or p i 0 ∷ []) ++ line_of (drop (i + 1) p) rest
+  at_byte rest (inl f, e) =
+      rw (e, drop-cons p i 0 l, add-one i)
+      (line_byte (get_or p i 0) (drop (suc i) p) ns (ne_eqb (get_or p i 0) gap f))
+  at_byte rest (inr m, e) =
+      let z : ns ≡ [] = drop_of_length-le ns {i = 0} (omega arith) in
+      rw (e, z, drop-cons p i 0 l, add-one i)
       (line_bare (get_or p i 0 ∷ drop (suc i) p)
       ∙ ap (λ (t : List ℕ). get_or p i 0 ∷ t) (sym (line_bare (drop (suc i) p))))
 

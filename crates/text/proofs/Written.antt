@@ -1,13 +1,17 @@
 -- Text in a lent list: a byte finds room or none, pieces go one behind the other, and a loop writes what is left of a
 -- text.
 use mathlib.Core.Path.{◌≡◌, refl, sym, ap, subst, ◌∙◌}
-use mathlib.Core.List.{List, [], ◌∷◌, ◌++◌, append_assoc, append-nil}
-use Prim.Native.Nat.{ℕ, suc, ◌+◌, ◌≤◌, ◌<◌}
+use mathlib.Core.List.{List, [], ◌++◌, append_assoc, append-nil}
+use Prim.Native.Nat.{ℕ, ◌+◌, ◌-◌, ◌≤◌, min}
 use native.Mathlib.Omega.{arith}
-use lib.ListN.{length, get_or, set, take, drop, length-append, length-take, length-drop}
-use lib.Seq.{take-nil, take_all, take_at, take-append-le, set_at, drop-cons, append_snoc}
+use lib.ListN.{length, take, drop, length-append, length-take, length-drop}
+use native.Mathlib.Decide.{dec_le}
+use Rattle.std.proofs.lemmas.List.{take_min, drop_at, drop-drop, take-append-le}
+use Rattle.std.proofs.Math.Seq.{take-nil, take_all, take_at, take-append-add}
 use Rattle.model.specs.Lent.{over}
 use Rattle.text.specs.Wrote.{Wrote, Puts}
+use Rattle.text.specs.Page.{Adds}
+use Rattle.text.specs.declared.Page.{Page}
 
 -- ---- a text in a list
 
@@ -45,37 +49,50 @@ wrote_whole t o o' n l w =
 pub wrote_same : {s t o o' : List ℕ} {n : ℕ} → s ≡ t → Wrote s o o' n → Wrote t o o' n
 wrote_same {o = o} {o'} {n} e w = subst (λ (x : List ℕ). Wrote x o o' n) e w
 
--- ---- a byte written on
+-- ---- a text written on
 
--- a byte that finds room
-pub byte_put : (o : List ℕ) (n b : ℕ) → n < length o → Puts (b ∷ []) o n (set o n b) (n + 1)
-byte_put o n b l = record { behind = λ t z w. fits t z w }
+-- the front of a text with another behind it
+take_both : (k m : ℕ) (t x : List ℕ) → m ≡ min (length x) (k - min (length t) k) → take k (t ++ x) ≡ take k t ++ take m x
+take_both k m t x e = elim (dec_le (length t) k) [ yes p ↦ room p | no p ↦ full p ]
   where
-    fits : (t z : List ℕ) → Wrote t z o n → Wrote (t ++ (b ∷ [])) z (set o n b) (n + 1)
-    fits t z w =
-        let k = (wrote_within t z o n w).1 in
-        let f = wrote_front t z o n (omega (arith, w.count)) w in
-        let m = f.0 in
-        let s = t ++ (b ∷ []) in
-        let d : length s ≡ suc (length t) = length-append t (b ∷ []) ∙ omega arith in
-        let e : set o n b ≡ s ++ drop (suc (length t)) z =
-        rw (f.1, m)
-        (ap (λ (x : List ℕ). set (t ++ x) (length t) b) (drop-cons z (length t) 0 (omega arith))
-        ∙ (set_at t (get_or z (length t) 0) (drop (suc (length t)) z) b (length t) refl
-        ∙ sym (append_snoc t b (drop (suc (length t)) z)))) in
-        let g : take (length z) s ≡ s = take_all (length z) s (omega arith) in
-        record { bytes = e ∙ rw (g, d) refl; count = omega arith }
+    room : length t ≤ k → take k (t ++ x) ≡ take k t ++ take m x
+    room p =
+        let c : k ≡ length t + (k - length t) = omega arith in
+        let d : m ≡ min (k - length t) (length x) = omega arith in
+        ap (λ (j : ℕ). take j (t ++ x)) c
+        ∙ (take-append-add t x (k - length t)
+        ∙ (ap (λ (l : List ℕ). t ++ l) (sym (take_min (k - length t) x) ∙ ap (λ (j : ℕ). take j x) (sym d))
+        ∙ ap (λ (l : List ℕ). l ++ take m x) (sym (take_all k t p))))
 
--- a byte that finds none
-pub byte_left_out : (o : List ℕ) (n b : ℕ) → length o ≤ n → Puts (b ∷ []) o n o n
-byte_left_out o n b l = record { behind = λ t z w. full t z w }
+    full : (length t ≤ k → ⊥) → take k (t ++ x) ≡ take k t ++ take m x
+    full p =
+        let d : m ≡ 0 = omega arith in
+        take-append-le k t x (omega arith)
+        ∙ sym (ap (λ (j : ℕ). take k t ++ take j x) d ∙ append-nil (take k t))
+
+-- as much of it as finds room, y, in the place of as many values
+pub part_put : (x y o : List ℕ) (n m k : ℕ) → m ≡ min (length x) (length o - n) → y ≡ take m x → k ≡ m →
+    Puts x o n (take n o ++ (y ++ drop k (drop n o))) (n + m)
+part_put x y o n m k e f g = record { behind = λ t z w. whole t z w }
   where
-    full : (t z : List ℕ) → Wrote t z o n → Wrote (t ++ (b ∷ [])) z o n
-    full t z w =
-        let k = (wrote_within t z o n w).1 in
-        let e : take (length z) (t ++ (b ∷ [])) ≡ take (length z) t =
-        take-append-le (length z) t (b ∷ []) (omega (arith, w.count)) in
-        record { bytes = w.bytes ∙ rw e refl; count = omega (arith, length-append t (b ∷ []), w.count) }
+    whole : (t z : List ℕ) → Wrote t z o n → Wrote (t ++ x) z (take n o ++ (y ++ drop k (drop n o))) (n + m)
+    whole t z w =
+        let s = (wrote_within t z o n w).1 in
+        let a = take (length z) t in
+        let c = w.count in
+        let la : length a ≡ n = length-take (length z) t ∙ omega arith in
+        let front : take n o ≡ a = ap (take n) w.bytes ∙ take_at a (drop (length a) z) n la in
+        let back : drop n o ≡ drop n z =
+        ap (drop n) w.bytes ∙ (drop_at a (drop (length a) z) n la ∙ ap (λ (j : ℕ). drop j z) la) in
+        let b : take (length z) (t ++ x) ≡ a ++ take m x = take_both (length z) m t x (omega arith) in
+        let l : length (a ++ take m x) ≡ n + m = omega (arith, length-append a (take m x), length-take m x) in
+        record {
+          bytes =
+              rw (front, back, f, g, b, l)
+              (ap (λ (r : List ℕ). a ++ (take m x ++ r)) (drop-drop m n z)
+              ∙ sym (append_assoc a (take m x) (drop (n + m) z)));
+          count = omega (arith, length-append t x);
+        }
 
 -- ---- pieces one behind the other
 
@@ -91,21 +108,29 @@ module _ {o : List ℕ} {n : ℕ} where
   puts_then {x} {y} p q =
       record { behind = λ t l w. rw (append_assoc t x y) at (q.behind (t ++ x) l (p.behind t l w)) }
 
--- ---- what is left of a text
+-- ---- pages
 
--- of the text x, from n in o on, all is written but y, from n' in o' on
-pub record Leaves (x o : List ℕ) (n : ℕ) (y o' : List ℕ) (n' : ℕ) : Type 0 where
-  pub rest : (l : List ℕ) (m : ℕ) → Puts y o' n' l m → Puts x o n l m
+pub adds_same : {x y : List ℕ} {p q : Page} → x ≡ y → Adds x p q → Adds y p q
+adds_same {p = p} {q} e a = subst (λ (t : List ℕ). Adds t p q) e a
 
-pub leaves_all : (x o : List ℕ) (n : ℕ) → Leaves x o n x o n
-leaves_all x o n = record { rest = λ l m p. p }
+pub adds_then : {x y : List ℕ} {p q r : Page} → Adds x p q → Adds y q r → Adds (x ++ y) p r
+adds_then a b = record { same_list = b.same_list ∙ a.same_list; puts = puts_then a.puts b.puts }
 
-module _ {x o y o₁ : List ℕ} {n n₁ : ℕ} where
+-- of the text x, from the page p on, all is written but y, from the page q on
+pub record Leaves (x : List ℕ) (p : Page) (y : List ℕ) (q : Page) : Type 0 where
+  pub rest : (r : Page) → Adds y q r → Adds x p r
+
+pub leaves_all : (x : List ℕ) (p : Page) → Leaves x p x p
+leaves_all x p = record { rest = λ r a. a }
+
+module _ {x y : List ℕ} {p q : Page} where
   -- its next piece written
-  pub leaves_less : {a z o₂ : List ℕ} {n₂ : ℕ} → Leaves x o n y o₁ n₁ → y ≡ a ++ z → Puts a o₁ n₁ o₂ n₂ →
-      Leaves x o n z o₂ n₂
-  leaves_less f e p = record { rest = λ l m q. f.rest l m (puts_same (sym e) (puts_then p q)) }
+  pub leaves_less : {a z : List ℕ} {r : Page} → Leaves x p y q → y ≡ a ++ z → Adds a q r → Leaves x p z r
+  leaves_less f e b = record { rest = λ s c. f.rest s (adds_same (sym e) (adds_then b c)) }
 
   -- nothing left: the text is written
-  pub leaves_none : Leaves x o n y o₁ n₁ → y ≡ [] → Puts x o n o₁ n₁
-  leaves_none f e = f.rest o₁ n₁ (puts_same (sym e) (record { behind = λ t l w. rw append-nil w }))
+  pub leaves_none : Leaves x p y q → y ≡ [] → Adds x p q
+  leaves_none f e =
+      f.rest q
+      (adds_same (sym e)
+      (record { same_list = refl; puts = record { behind = λ t l w. rw append-nil w } }))

@@ -4,3 +4,4 @@ pub mod Ascii
 pub mod Decimal
 pub mod Line
 pub mod Wrote
+pub mod Page

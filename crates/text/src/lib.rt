@@ -1,62 +1,70 @@
-// Text in lent lists, piece by piece: each function goes on behind what is written, writes what there is room for,
-// and answers the place behind it.
+// Text written into a lent list, piece by piece, as much of it as there is room for.
 #![tactic(auto)]
 
-ghost use Rattle.std.specs.Prelude.{[], ◌∷◌};
+ghost use Rattle.std.specs.Prelude.{◌≡◌, ◌≤◌, length};
 ghost use Rattle.text.specs.Decimal.{decimal};
 ghost use Rattle.text.specs.Line.{line_of};
-ghost use Rattle.text.specs.Wrote.{Puts};
 
-// One byte.
-fn put_byte(byte: u8, out: &mut [u8], at: usize) -> usize
-    ensures { Puts (byte ∷ []) out.old at out.new result }
-{
-    if at < out.len() {
-        out[at] = byte;
-        return at + 1;
+// A lent list that is written from its front on, and the place behind what is written.
+#[derive(Drop)]
+pub struct Page<'a> {
+    out: &'a mut [u8],
+    at: usize,
+    ghost within: { at ≤ length out.now },
+}
+
+impl<'a> Page<'a> {
+    ghost use Rattle.text.specs.Page.{Adds};
+
+    // A page with nothing written yet.
+    pub fn of(out: &'a mut [u8]) -> Page<'a>
+        ensures same_list { result.out.ghost_name ≡ out.entry.ghost_name }
+        ensures as_lent { result.out.now ≡ out.old }
+        ensures nothing { result.at ≡ 0 }
+    {
+        Page { out, at: 0 }
     }
-    at
-}
 
-// All bytes of a text.
-fn put_text(text: &[u8], out: &mut [u8], at: usize) -> usize
-    ensures { Puts text.now out.old at out.new result }
-{
-    let mut next = at;
-    let mut i: usize = 0;
-    while i < text.len() {
-        next = put_byte(text[i], out, next);
-        i += 1;
+    // How many bytes are written.
+    pub fn written(&self) -> usize
+        ensures { result ≡ self.now.at }
+    {
+        self.at
     }
-    next
-}
 
-// A number in decimal digits.
-fn put_number(n: u64, out: &mut [u8], at: usize) -> usize
-    ensures { Puts (decimal n) out.old at out.new result }
-{
-    let mut digits = [0u8; 20];
-    let k = io::decimal(n, &mut digits);
-    put_text(&digits[0..k], out, at)
-}
+    // Writes a text on, as much of it as there is room for.
+    fn put(&mut self, text: &[u8])
+        ensures { Adds text.now self.old self.new }
+    {
+        let n = text.len().min(self.out.len() - self.at);
+        let end = self.at + n;
+        self.out[self.at..end].copy_from_slice(&text[..n]);
+        self.at = end;
+    }
 
-// The line of a pattern: the next figure in place of each #.
-pub fn put_line(pattern: &[u8], figures: &[u64], out: &mut [u8], at: usize) -> usize
-    ensures { Puts (line_of pattern.now figures.now) out.old at
-        out.new result }
-{
-    let mut next = at;
-    let mut i: usize = 0;
-    let mut k: usize = 0;
-    while i < pattern.len() {
-        let byte = pattern[i];
-        i += 1;
-        if byte == b'#' && k < figures.len() {
-            next = put_number(figures[k], out, next);
-            k += 1;
-            continue;
+    // Writes a number on in decimal digits.
+    fn put_number(&mut self, n: u64)
+        ensures { Adds (decimal n) self.old self.new }
+    {
+        // io::decimal writes into 20 bytes, the digits of the largest u64; there is no heap to write into.
+        let mut digits = [0u8; 20];
+        let k = io::decimal(n, &mut digits);
+        self.put(&digits[..k]);
+    }
+
+    // Writes on the line of a pattern: the next figure in place of each #.
+    pub fn put_line(&mut self, pattern: &[u8], figures: &[u64])
+        ensures { Adds (line_of pattern.now figures.now) self.old self.new }
+    {
+        let mut left = figures.iter();
+        for &byte in pattern {
+            if byte == b'#' {
+                if let Some(&n) = left.next() {
+                    self.put_number(n);
+                    continue;
+                }
+            }
+            self.put(&[byte]);
         }
-        next = put_byte(byte, out, next);
     }
-    next
 }
