@@ -4,7 +4,7 @@ use Rattle.search.specs.Search.{BetweenAt}
 use Rattle.search.proofs.search.search.Given as goal
 
 abbrev pub invariant-loop-at : goal.invariant-loop-at
-invariant-loop-at l = BetweenAt l.rule l.harvest l.least l.most l.next l.f l.have l.at
+invariant-loop-at l = BetweenAt l.place l.at
 
 abbrev pub decreases-loop-at : goal.decreases-loop-at
 decreases-loop-at l = l.at.top - l.at.good
