@@ -10,7 +10,7 @@ pub use refusal::Refusal;
 
 // The figures of a request.
 #[repr(C)]
-#[derive(Clone, Copy)]
+#[derive(Clone, Copy, Default)]
 pub struct Figures {
     pub capacity: u32,
     pub start: u32,

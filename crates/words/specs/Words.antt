@@ -49,3 +49,23 @@ words_from (suc n) s = word_at s 0 ∷ words_from n (drop 4 s)
 -- the whole words of a list of bytes
 abbrev pub words_of : List ℕ → List ℕ
 words_of s = words_from (length s / 4) s
+
+-- the kinds of words: a figure, a harvest, a bound, the end word
+abbrev pub figure_kind : ℕ
+figure_kind = 0
+
+abbrev pub harvest_kind : ℕ
+harvest_kind = 1
+
+abbrev pub bound_kind : ℕ
+bound_kind = 2
+
+abbrev pub end_kind : ℕ
+end_kind = 3
+
+-- the marks of bounds, their kind with bit 29: a least, a most
+abbrev pub least_mark : ℕ
+least_mark = 4
+
+abbrev pub most_mark : ℕ
+most_mark = 5

@@ -2,6 +2,10 @@
 // 29: read from a list of bytes, and put into one.
 #![tactic(auto)]
 
+mod bits;
 mod word;
+mod writer;
 
-pub use word::{amount, kind, mark, nth, put, put_bound, value};
+pub use bits::{rest, tag, tagged};
+pub use word::{Word, get, nth};
+pub use writer::Writer;
