@@ -3,9 +3,11 @@
 #![tactic(auto)]
 
 mod block;
+mod levels;
+mod side;
 mod trial;
 mod weigh;
 
-pub use block::{Block, Needs, block_at, done, end_of};
-pub use trial::{level_to_try, lone};
-pub use weigh::{ABOVE, BELOW, next_side, weigh_block};
+pub use block::{Block, Needs, end_of};
+pub use levels::{Bounds, Levels};
+pub use side::Side;

@@ -1,155 +1,130 @@
 // Which level to try in a block: means of what there is to draw hit most often, and the middle of the interval bounds
 // the tries.
-ghost use Rattle.certifier.specs.Says.{Readable};
-
-use super::block::{Block, Needs};
-use certifier::{At, Rule, frame_at};
-use numbers::{TOP, greater, less, lesser, minus, over, plus, within};
+use super::block::Block;
+use super::levels::Bounds;
+use certifier::{At, Frames};
 
 // What frames have and take, how many of them are free, and the narrowest bounds of those.
 #[derive(Clone, Copy)]
-pub struct Shared {
-    pub have: u64,
-    pub taken: u64,
-    pub free: u64,
-    pub least: u64,
-    pub most: u64,
+struct Shared {
+    have: u64,
+    taken: u64,
+    free: u64,
+    least: u64,
+    most: u64,
 }
 
-// What frame k of a block gets: of the first one the room counts.
-fn income(block: Block, k: usize, f: At) -> u64 {
-    if block.from < k {
-        lesser(f.ceiling, f.inflow)
-    } else {
-        block.room
+impl Shared {
+    // With one frame more, which gets so much: where it is not free between two levels, it takes its least above them
+    // or its most below them.
+    fn with(self, f: At, gets: u64, floor: u64, roof: u64) -> Shared {
+        let have = self.have.wrapping_add(gets);
+        let taken = self.taken.wrapping_add(f.drain);
+        if roof < f.least {
+            let taken = taken.wrapping_add(f.least);
+            return Shared {
+                have,
+                taken,
+                ..self
+            };
+        }
+        if f.most <= floor {
+            let taken = taken.wrapping_add(f.most);
+            return Shared {
+                have,
+                taken,
+                ..self
+            };
+        }
+        Shared {
+            have,
+            taken,
+            free: self.free.wrapping_add(1),
+            least: self.least.max(f.least),
+            most: self.most.min(f.most),
+        }
+    }
+
+    // What each of the free frames gets, if there is one.
+    fn part(self) -> Option<u64> {
+        self.have.saturating_sub(self.taken).checked_div(self.free)
     }
 }
 
-// What is shared with one frame more, which gets so much: where it is not free between two levels, it takes its least
-// above them or its most below them.
-fn share_frame(before: Shared, f: At, gets: u64, floor: u64, roof: u64) -> Shared {
-    let mut s = before;
-    s.have = plus(s.have, gets);
-    s.taken = plus(s.taken, f.drain);
-    if roof < f.least {
-        s.taken = plus(s.taken, f.least);
-        return s;
+impl Block {
+    // What frame k of the block gets: of the first one the room counts.
+    fn income(self, k: usize, f: At) -> u64 {
+        if self.from < k {
+            f.ceiling.min(f.inflow)
+        } else {
+            self.room
+        }
     }
-    if f.most <= floor {
-        s.taken = plus(s.taken, f.most);
-        return s;
-    }
-    s.free = plus(s.free, 1);
-    s.least = greater(s.least, f.least);
-    s.most = lesser(s.most, f.most);
-    s
-}
 
-// What the frames of a block share that are free between two levels.
-fn share(
-    rule: Rule,
-    harvest: &[u32],
-    least: &[u32],
-    most: &[u32],
-    block: Block,
-    floor: u64,
-    roof: u64,
-) -> Shared
-    requires { Readable rule harvest.now least.now most.now }
-{
-    let mut s = Shared {
-        have: 0,
-        taken: block.end,
-        free: 0,
-        least: 0,
-        most: TOP,
-    };
-    let to = within(block.to, harvest.len());
-    let mut k = block.from;
-    while k < to {
-        let f = frame_at(rule, harvest, least, most, k);
-        s = share_frame(s, f, income(block, k, f), floor, roof);
-        k += 1;
+    // What the frames of the block share that are free between two levels.
+    fn share(self, frames: Frames, floor: u64, roof: u64) -> Shared {
+        let mut s = Shared {
+            have: 0,
+            taken: self.end,
+            free: 0,
+            least: 0,
+            most: u64::from(u32::MAX),
+        };
+        for k in self.from..self.to.min(frames.count()) {
+            let f = frames.at(k);
+            s = s.with(f, self.income(k, f), floor, roof);
+        }
+        s
     }
-    s
-}
 
-// What a frame gets of a share; the middle of the block's interval where no frame is free.
-fn part_of(block: Block, s: Shared) -> u64 {
-    if s.free == 0 {
-        return middle(block);
-    }
-    less(s.have, s.taken) / s.free
-}
-
-// The mean of a block, shared among the frames that no bound binds inside its interval; where bounds bind at that
-// mean, the mean of the frames that are free there.
-fn mean(rule: Rule, harvest: &[u32], least: &[u32], most: &[u32], block: Block) -> u64
-    requires { Readable rule harvest.now least.now most.now }
-{
-    let s = share(rule, harvest, least, most, block, block.low, block.high);
-    let level = part_of(block, s);
-    if s.least <= level {
-        if level < s.most {
+    // The mean of the block, shared among the frames that no bound binds inside its interval; where bounds bind at that
+    // mean, the mean of the frames that are free there. The middle of the interval where no frame is free.
+    fn mean(self, frames: Frames) -> u64 {
+        let Bounds { low, high } = self.bounds;
+        let middle = self.bounds.middle();
+        let s = self.share(frames, u64::from(low), u64::from(high));
+        let level = s.part().unwrap_or(middle);
+        if s.least <= level && level < s.most {
             return level;
         }
+        self.share(frames, level, level).part().unwrap_or(middle)
     }
-    part_of(
-        block,
-        share(rule, harvest, least, most, block, level, level),
-    )
-}
 
-// The middle of a block's interval.
-fn middle(block: Block) -> u64 {
-    plus(block.low, less(block.high, block.low) / 2)
-}
-
-// The level at which the first frame would need its room, if its needs went on as they do from the last level to one
-// more.
-fn straight(block: Block, last: Needs) -> u64 {
-    let slope = minus(last.more, last.need);
-    if block.room < last.need {
-        let short = minus(last.need, block.room);
-        return less(last.level, over(plus(short, minus(slope, 1)), slope));
+    // The level at which the first frame would need its room, if its needs went on as they do from the last level to
+    // one more; none where no level was tried, or one more needs no more.
+    fn straight(self) -> Option<u64> {
+        let last = self.last?;
+        if last.more <= last.need {
+            return None;
+        }
+        let slope = last.more - last.need;
+        let level = u64::from(last.level);
+        Some(match self.room.checked_sub(last.need) {
+            Some(spare) => level.wrapping_add(spare / slope),
+            None => level.saturating_sub((last.need - self.room).div_ceil(slope)),
+        })
     }
-    plus(last.level, over(minus(block.room, last.need), slope))
-}
 
-// A level within a block's interval.
-fn clamped(block: Block, level: u64) -> u64 {
-    lesser(greater(level, block.low), block.high)
-}
-
-// A likely level of a block: in turn the mean, the straight way where there is one, the mean, the middle.
-fn likely(rule: Rule, harvest: &[u32], least: &[u32], most: &[u32], block: Block) -> u64
-    requires { Readable rule harvest.now least.now most.now }
-{
-    let turn = block.tries % 4;
-    if turn == 3 {
-        return middle(block);
-    }
-    let last = block.last;
-    if turn == 1 {
-        if last.need < last.more {
-            return straight(block, last);
+    // A likely level: in turn the mean, the straight way where there is one, the mean, the middle.
+    fn likely(self, frames: Frames) -> u64 {
+        match self.tries % 4 {
+            3 => self.bounds.middle(),
+            1 => self.straight().unwrap_or_else(|| self.mean(frames)),
+            _ => self.mean(frames),
         }
     }
-    mean(rule, harvest, least, most, block)
-}
 
-// The level to try in a block: a likely one within its interval.
-pub fn level_to_try(rule: Rule, harvest: &[u32], least: &[u32], most: &[u32], block: Block) -> u64
-    requires { Readable rule harvest.now least.now most.now }
-{
-    clamped(block, likely(rule, harvest, least, most, block))
-}
-
-// The level of a block of one frame: what is left for it, and any above its most is as good.
-pub fn lone(f: At, block: Block) -> u64 {
-    let level = less(block.room, plus(f.drain, block.end));
-    if f.most <= level {
-        return block.high;
+    // The level to try in the block: a likely one within its interval.
+    pub fn level_to_try(self, frames: Frames) -> u32 {
+        self.bounds.nearest(self.likely(frames))
     }
-    clamped(block, level)
+
+    // The level of a block of one frame: what is left for it, and any above its most is as good.
+    pub fn lone(self, f: At) -> u32 {
+        let level = self.room.saturating_sub(f.drain.wrapping_add(self.end));
+        if f.most <= level {
+            return self.bounds.high;
+        }
+        self.bounds.nearest(level)
+    }
 }

@@ -8,294 +8,209 @@
 // What bounds the number of weighings: each one settles a frame or takes the level tried out of its interval, and
 // every fourth one of a frame is at the middle of its interval and halves it. An interval has at most 2^32 levels, so
 // no frame is weighed more than 4 * 33 times; where means and straight ways hit, a handful of times.
-ghost use Rattle.std.specs.Prelude.{◌≡◌, length};
-ghost use Rattle.certifier.specs.Says.{Readable};
+ghost use Rattle.std.specs.Prelude.{◌<◌};
+ghost use Rattle.certifier.specs.Says.{frame_count};
 
-use blocks::{
-    ABOVE, BELOW, Block, Needs, block_at, done, end_of, level_to_try, lone, next_side, weigh_block,
-};
-use certifier::{Rule, frame_at};
-use numbers::{TOP, at, fill, greater, less, lesser, plus, put};
+use blocks::{Block, Bounds, Levels, Needs, Side, end_of};
+use certifier::Frames;
 
 // The guess ends after so many steps, settled or not.
-const TURNS: u64 = 1000000;
+const TURNS: u32 = 1000000;
 
-// The lowest and the highest level of a frame.
-#[derive(Clone, Copy)]
-pub struct Bounds {
-    pub low: u64,
-    pub high: u64,
+// Frames and a start charge, and of each frame the lowest and the highest level, and how often it was weighed; while
+// a block is weighed, its frames' marks stand in place of that. Of the lists' lengths nothing is known.
+#[derive(Drop)]
+struct Splitting<'f, 'l> {
+    frames: Frames<'f>,
+    start: u64,
+    lows: &'l mut [u32],
+    highs: &'l mut [u32],
+    tries: &'l mut [u32],
 }
 
 // The bounds of a frame on a side of a level that was tried in a block.
-fn bounds_on(block: Block, level: u64, side: u64) -> Bounds {
-    if side == BELOW {
-        return Bounds {
-            low: block.low,
-            high: greater(less(level, 1), block.low),
-        };
-    }
-    if side == ABOVE {
-        return Bounds {
-            low: lesser(plus(level, 1), block.high),
-            high: block.high,
-        };
-    }
-    Bounds {
-        low: level,
-        high: level,
+fn bounds_on(side: Side, level: u32, bounds: Bounds) -> Bounds {
+    let Bounds { low, high } = bounds;
+    match side {
+        Side::Below => Bounds {
+            low,
+            high: level.saturating_sub(1).max(low),
+        },
+        Side::Level => Bounds {
+            low: level,
+            high: level,
+        },
+        Side::Above => Bounds {
+            low: level.saturating_add(1).min(high),
+            high,
+        },
     }
 }
 
-// The end of the first part, known or found at frame k, whose side is another one.
-fn first_cut(cut: usize, to: usize, k: usize, same: bool) -> usize {
-    if same {
-        return cut;
-    }
-    if cut < to {
-        return cut;
-    }
-    k
-}
-
-// Parts a block by the verdicts on a level: writes the new bounds. Gives the end of the first part.
-fn part(block: Block, level: u64, lows: &mut [u32], highs: &mut [u32], marks: &[u32]) -> usize
-    ensures { (length lows.new ≡ length lows.old) ×
-        (length highs.new ≡ length highs.old) }
-{
-    let first = at(marks, block.from);
-    let mut side = first;
-    let mut cut = block.to;
-    let mut k = block.from;
-    while k < block.to {
-        side = next_side(side, at(marks, k));
-        cut = first_cut(cut, block.to, k, side == first);
-        let bounds = bounds_on(block, level, side);
-        put(lows, k, bounds.low);
-        put(highs, k, bounds.high);
-        k += 1;
-    }
-    cut
-}
-
-// The reserve behind the first part of a block, which ends before frame `cut`.
-fn part_end(
-    rule: Rule,
-    harvest: &[u32],
-    least: &[u32],
-    most: &[u32],
-    block: Block,
-    lows: &[u32],
-    cut: usize,
-) -> u64
-    requires { Readable rule harvest.now least.now most.now }
-{
-    if block.to <= cut {
-        return block.end;
-    }
-    end_of(rule, harvest, least, most, lows, cut, at(lows, block.from))
-}
-
-// The first part of a block that was parted before frame `cut`, and what its first frame needed.
-fn first_part(
-    rule: Rule,
-    harvest: &[u32],
-    least: &[u32],
-    most: &[u32],
-    block: Block,
-    needs: Needs,
-    lows: &[u32],
-    highs: &[u32],
-    cut: usize,
-) -> Block
-    requires { Readable rule harvest.now least.now most.now }
-{
-    let mut first = block;
-    first.to = cut;
-    first.low = at(lows, block.from);
-    first.high = at(highs, block.from);
-    first.end = part_end(rule, harvest, least, most, block, lows, cut);
-    first.tries = plus(block.tries, 1);
-    first.last = needs;
-    first
-}
-
-// Tries a level in a block and gives its first part.
-fn divide(
-    rule: Rule,
-    harvest: &[u32],
-    least: &[u32],
-    most: &[u32],
-    block: Block,
-    lows: &mut [u32],
-    highs: &mut [u32],
-    marks: &mut [u32],
-) -> Block
-    requires { Readable rule harvest.now least.now most.now }
-    ensures { (length lows.new ≡ length lows.old) ×
-        (length highs.new ≡ length highs.old) ×
-        (length marks.new ≡ length marks.old) }
-{
-    let level = level_to_try(rule, harvest, least, most, block);
-    let needs = weigh_block(rule, harvest, least, most, block, level, marks);
-    let cut = part(block, level, lows, highs, marks);
-    fill(marks, block.from, block.to, plus(block.tries, 1));
-    first_part(rule, harvest, least, most, block, needs, lows, highs, cut)
-}
-
-// Gives a block of one frame its level.
-fn settle(
-    rule: Rule,
-    harvest: &[u32],
-    least: &[u32],
-    most: &[u32],
-    block: Block,
-    lows: &mut [u32],
-    highs: &mut [u32],
-) -> Block
-    requires { Readable rule harvest.now least.now most.now }
-    ensures { (length lows.new ≡ length lows.old) ×
-        (length highs.new ≡ length highs.old) }
-{
-    let k = block.from;
-    if harvest.len() <= k {
-        return block;
-    }
-    let level = lone(frame_at(rule, harvest, least, most, k), block);
-    put(lows, k, level);
-    put(highs, k, level);
-    let mut settled = block;
-    settled.low = level;
-    settled.high = level;
-    settled
-}
-
-// One step: a block is settled, divided or, where it is settled, left for the next one.
-fn step(
-    rule: Rule,
-    harvest: &[u32],
-    least: &[u32],
-    most: &[u32],
-    start: u64,
-    block: Block,
-    lows: &mut [u32],
-    highs: &mut [u32],
-    marks: &mut [u32],
-) -> Block
-    requires { Readable rule harvest.now least.now most.now }
-    ensures { (length lows.new ≡ length lows.old) ×
-        (length highs.new ≡ length highs.old) ×
-        (length marks.new ≡ length marks.old) }
-{
-    let next = block.to;
-    if block.low < block.high {
-        if less(next as u64, block.from as u64) <= 1 {
-            return settle(rule, harvest, least, most, block, lows, highs);
+impl<'f, 'l> Splitting<'f, 'l> {
+    // The lists as they stand.
+    fn levels(&self) -> Levels<'_> {
+        Levels {
+            lows: self.lows,
+            highs: self.highs,
+            tries: self.tries,
         }
-        return divide(rule, harvest, least, most, block, lows, highs, marks);
     }
-    if harvest.len() <= next {
-        return block;
-    }
-    block_at(rule, harvest, least, most, start, next, lows, highs, marks)
-}
 
-// Gives every frame the levels up to a roof.
-fn unbound(lows: &mut [u32], highs: &mut [u32], marks: &mut [u32], count: usize, roof: u64)
-    ensures { (length lows.new ≡ length lows.old) ×
-        (length highs.new ≡ length highs.old) ×
-        (length marks.new ≡ length marks.old) }
-{
-    fill(lows, 0, count, 0);
-    fill(highs, 0, count, roof);
-    fill(marks, 0, count, 0);
+    // The block that begins at a frame; the frames before it are settled.
+    fn block_at(&self, from: usize) -> Block
+        requires { from < frame_count self.now.frames }
+    {
+        Block::at(self.frames, self.start, self.levels(), from)
+    }
+
+    // Writes the bounds of a frame.
+    fn bound(&mut self, k: usize, bounds: Bounds) {
+        if let Some(low) = self.lows.get_mut(k) {
+            *low = bounds.low;
+        }
+        if let Some(high) = self.highs.get_mut(k) {
+            *high = bounds.high;
+        }
+    }
+
+    // The side of a frame behind one of another side, by its mark.
+    fn side_of(&self, k: usize, before: Side) -> Side {
+        match self.tries.get(k) {
+            Some(&mark) => before.next(mark),
+            None => before,
+        }
+    }
+
+    // Parts a block by the marks of a level: writes the new bounds. Gives the end of the first part.
+    fn part(&mut self, block: Block, level: u32) -> usize {
+        let first = self.side_of(block.from, Side::Level);
+        let mut side = first;
+        let mut cut = None;
+        for k in block.from..block.to {
+            side = self.side_of(k, side);
+            if side != first {
+                cut = cut.or(Some(k));
+            }
+            self.bound(k, bounds_on(side, level, block.bounds));
+        }
+        cut.unwrap_or(block.to)
+    }
+
+    // The first part of a block that was parted before frame `cut`, and what its first frame needed.
+    fn first_part(&self, block: Block, needs: Needs, cut: usize) -> Block {
+        let bounds = self.levels().bounds(block.from);
+        let end = if block.to <= cut {
+            block.end
+        } else {
+            end_of(self.frames, self.lows, cut, bounds.low)
+        };
+        Block {
+            to: cut,
+            bounds,
+            end,
+            tries: block.tries.wrapping_add(1),
+            last: Some(needs),
+            ..block
+        }
+    }
+
+    // Tries a level in a block and gives its first part.
+    fn divide(&mut self, block: Block) -> Block {
+        let level = block.level_to_try(self.frames);
+        let needs = block.weigh(self.frames, level, self.tries);
+        let cut = self.part(block, level);
+        let first = self.first_part(block, needs, cut);
+        if let Some(tries) = self.tries.get_mut(block.from..block.to) {
+            tries.fill(first.tries);
+        }
+        first
+    }
+
+    // Gives a block of one frame its level.
+    fn settle(&mut self, block: Block) -> Block {
+        if self.frames.count() <= block.from {
+            return block;
+        }
+        let level = block.lone(self.frames.at(block.from));
+        let bounds = Bounds {
+            low: level,
+            high: level,
+        };
+        self.bound(block.from, bounds);
+        Block { bounds, ..block }
+    }
+
+    // One step: a block is settled, divided or, where it is settled, left for the next one.
+    fn step(&mut self, block: Block) -> Block {
+        if block.bounds.low < block.bounds.high {
+            if block.to.saturating_sub(block.from) <= 1 {
+                return self.settle(block);
+            }
+            return self.divide(block);
+        }
+        if self.frames.count() <= block.to {
+            return block;
+        }
+        self.block_at(block.to)
+    }
+
+    // Lifts every level at the roof to the top: a frame that draws its most there refuses nothing more.
+    fn lift(&mut self, roof: u32) {
+        for level in self.lows.iter_mut() {
+            if roof <= *level {
+                *level = u32::MAX;
+            }
+        }
+    }
+
+    // Steps from a block on, as long as one is not settled.
+    fn settle_all(&mut self, first: Block) {
+        let mut block = first;
+        for _ in 0..TURNS {
+            if block.done(self.frames.count()) {
+                return;
+            }
+            block = self.step(block);
+        }
+    }
 }
 
 // A level above everything that a frame can draw.
-fn roof_of(rule: Rule, harvest: &[u32], least: &[u32], most: &[u32], start: u64) -> u64
-    requires { Readable rule harvest.now least.now most.now }
-{
+fn roof_of(frames: Frames, start: u64) -> u32 {
     let mut have = start;
     let mut top = 0;
-    let mut k = 0;
-    while k < harvest.len() {
-        let f = frame_at(rule, harvest, least, most, k);
-        have = plus(have, f.inflow);
-        top = greater(top, f.most);
-        k += 1;
+    for k in 0..frames.count() {
+        let f = frames.at(k);
+        have = have.wrapping_add(f.inflow);
+        top = f.most.max(top);
     }
-    lesser(TOP, plus(lesser(have, top), 1))
-}
-
-// A level, but the top for one at the roof: a frame that draws its most there refuses nothing more.
-fn lifted(roof: u64, level: u64) -> u64 {
-    if roof <= level { TOP } else { level }
-}
-
-// Lifts every level at the roof to the top.
-fn lift(roof: u64, levels: &mut [u32])
-    ensures { length levels.new ≡ length levels.old }
-{
-    let mut k = 0;
-    while k < levels.len() {
-        put(levels, k, lifted(roof, at(levels, k)));
-        k += 1;
-    }
-}
-
-// Steps from a block on, as long as one is not settled.
-fn settle_all(
-    rule: Rule,
-    harvest: &[u32],
-    least: &[u32],
-    most: &[u32],
-    start: u64,
-    first: Block,
-    lows: &mut [u32],
-    highs: &mut [u32],
-    marks: &mut [u32],
-)
-    requires { Readable rule harvest.now least.now most.now }
-    ensures { (length lows.new ≡ length lows.old) ×
-        (length highs.new ≡ length highs.old) ×
-        (length marks.new ≡ length marks.old) }
-{
-    let mut block = first;
-    let mut turns = TURNS;
-    while 0 < turns {
-        if done(block, harvest.len()) {
-            return;
-        }
-        block = step(rule, harvest, least, most, start, block, lows, highs, marks);
-        turns -= 1;
-    }
+    have.min(top).saturating_add(1).min(u64::from(u32::MAX)) as u32
 }
 
 // Writes the levels that the splitting finds; the other lists are scratch.
 pub fn split_levels(
-    rule: Rule,
-    harvest: &[u32],
-    least: &[u32],
-    most: &[u32],
+    frames: Frames,
     start: u64,
     levels: &mut [u32],
     highs: &mut [u32],
-    marks: &mut [u32],
-)
-    requires { Readable rule harvest.now least.now most.now }
-    ensures { (length levels.new ≡ length levels.old) ×
-        (length highs.new ≡ length highs.old) ×
-        (length marks.new ≡ length marks.old) }
-{
-    let count = harvest.len();
-    if count == 0 {
+    tries: &mut [u32],
+) {
+    if frames.count() == 0 {
         return;
     }
-    let roof = roof_of(rule, harvest, least, most, start);
-    unbound(levels, highs, marks, count, roof);
-    let first = block_at(rule, harvest, least, most, start, 0, levels, highs, marks);
-    settle_all(
-        rule, harvest, least, most, start, first, levels, highs, marks,
-    );
-    lift(roof, levels);
+    let roof = roof_of(frames, start);
+    levels.fill(0);
+    highs.fill(roof);
+    tries.fill(0);
+    let mut splitting = Splitting {
+        frames: frames,
+        start: start,
+        lows: levels,
+        highs: highs,
+        tries: tries,
+    };
+    let first = splitting.block_at(0);
+    splitting.settle_all(first);
+    splitting.lift(roof);
 }

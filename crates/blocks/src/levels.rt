@@ -1,0 +1,62 @@
+// The levels that frames can have.
+ghost use Rattle.std.specs.Prelude.{◌≡◌, get_or};
+
+// The lowest and the highest level of a frame.
+#[derive(Clone, Copy, PartialEq, Eq)]
+pub struct Bounds {
+    pub low: u32,
+    pub high: u32,
+}
+
+impl Bounds {
+    // The middle of the interval.
+    pub(crate) fn middle(self) -> u64 {
+        let low = u64::from(self.low);
+        low + u64::from(self.high).saturating_sub(low) / 2
+    }
+
+    // The level nearest to another one that is not above the highest.
+    pub(crate) fn nearest(self, level: u64) -> u32 {
+        level.max(u64::from(self.low)).min(u64::from(self.high)) as u32
+    }
+}
+
+// Of each frame the lowest and the highest level, and how often it was weighed. Of the lists' lengths nothing is known.
+#[derive(Clone, Copy)]
+pub struct Levels<'a> {
+    pub lows: &'a [u32],
+    pub highs: &'a [u32],
+    pub tries: &'a [u32],
+}
+
+impl<'a> Levels<'a> {
+    // The bounds of a frame; 0 where a list has none.
+    pub fn bounds(self, i: usize) -> Bounds
+        ensures { (result.low ≡ get_or self.entry.lows.now i 0) × (result.high ≡ get_or self.entry.highs.now i 0) }
+    {
+        Bounds {
+            low: at(self.lows, i),
+            high: at(self.highs, i),
+        }
+    }
+
+    // How often a frame was weighed.
+    pub(crate) fn tries(self, i: usize) -> u32 {
+        at(self.tries, i)
+    }
+
+    // The end of the frames in a row that have the bounds of the first.
+    pub(crate) fn run_end(self, from: usize, count: usize) -> usize {
+        let first = self.bounds(from);
+        (from..count)
+            .find(|&k| self.bounds(k) != first)
+            .unwrap_or(count)
+    }
+}
+
+// The number at a place; 0 outside.
+pub(crate) fn at(list: &[u32], i: usize) -> u32
+    ensures { result ≡ get_or list.now i 0 }
+{
+    list.get(i).copied().unwrap_or(0)
+}
