@@ -1,14 +1,30 @@
 -- What the entries of a shift promise: the answer and every lent list by an equation, then what the answer means.
-use Rattle.std.specs.Prelude.{◌≡◌, true, false, List, ℕ}
+use Rattle.std.specs.Prelude.{◌≡◌, true, false, List, ℕ, Result, Ok, Err}
+use Rattle.model.specs.declared.refusal.Refusal.{Refusal as Given}
 use Rattle.model.specs.Choice.{pick}
 use Rattle.model.specs.Request.{Request}
-use Rattle.model.specs.Refusals.{Outcome, outcome, is_none, start_refusal, is_unreachable}
+use Rattle.model.specs.Refusals.{Refusal, none, Outcome, outcome, is_none, start_refusal, is_unreachable}
+use Rattle.model.specs.Answer.{told}
 use Rattle.model.specs.Charge.{feasible}
 use Rattle.model.specs.Reward.{IsPlan}
 use Rattle.model.specs.Plan.{plan_of}
 use Rattle.shift.specs.declared.Shift.{Shift}
-use Rattle.shift.specs.declared.ShiftAnswer.{ShiftAnswer}
 use Rattle.shift.specs.Shift.{started, no_shift, is_shift, record_refusal, recorded_by}
+
+-- an answer with a shift: the refusal, none if there is none, and the shift
+pub record ShiftAnswer : Type 0 where
+  pub refusal : Refusal
+  pub shift : Shift
+
+-- what starting answers, as one of these: beside a refusal zeros
+abbrev pub started_as : Result Shift Given → ShiftAnswer
+started_as (Ok t) = record { refusal = none; shift = t }
+started_as (Err e) = record { refusal = told e; shift = no_shift }
+
+-- what recording of shift s answers: beside a refusal the shift as it was
+abbrev pub recorded_as : Shift → Result Shift Given → ShiftAnswer
+recorded_as s (Ok t) = record { refusal = none; shift = t }
+recorded_as s (Err e) = record { refusal = told e; shift = s }
 
 -- what an answer with a shift says in document 01's terms: the shift, or the refusal
 abbrev pub shift_said : ShiftAnswer → Outcome Shift

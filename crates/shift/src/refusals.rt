@@ -1,51 +1,48 @@
-// Refusals 22, 20 and 21, and recording's, as its list in the definitions has them.
+// Refusals 22, 20 and 21, and recording's, as its list in the definitions has them. Harvest and use stay two numbers:
+// each is looked at by a rule of its own, and as C lends them; a struct would be taken apart in every one.
 ghost use Rattle.std.specs.Prelude.{◌≡◌};
+ghost use Rattle.model.specs.Answer.{refused};
 ghost use Rattle.shift.specs.Shift.{all_recorded, not_shift, record_refusal, use_too_great};
 
 use crate::Shift;
-use crate::state::is_shift;
 use model::Refusal;
 use model::frame::at_hand;
-use request::{first_of, harvest_refusal, refuse_if};
+use request::{check_harvest, check_that};
 
-// Refusal 22.
-pub fn shift_refusal(s: Shift) -> Refusal
-    ensures { result ≡ not_shift s }
-{
-    refuse_if(!is_shift(s), 22)
-}
-
-// Refusal 20.
-pub fn done_refusal(s: Shift) -> Refusal
-    ensures { result ≡ all_recorded s.terms s.now }
-{
-    refuse_if(s.now.recorded == s.terms.frames, 20)
-}
-
-// Refusal 21.
-pub fn use_refusal(s: Shift, harvest: u32, used: u32) -> Refusal
-    ensures { result ≡ use_too_great s.terms s.now harvest used }
-{
-    let have = at_hand(s.terms.capacity, s.now.charge, harvest);
-    let taken = used as u64;
-    if taken > have {
-        Refusal {
-            number: 21,
-            p: taken - have,
-        }
-    } else {
-        Refusal { number: 0, p: 0 }
+impl Shift {
+    // Refusal 22.
+    pub fn check_shift(self) -> Result<(), Refusal>
+        ensures { refused result ≡ not_shift self }
+    {
+        check_that(self.is_shift(), Refusal::NotShift)
     }
-}
 
-// Recording. The harvest is looked at as a list of one.
-pub fn record_refusal(s: Shift, harvest: u32, used: u32) -> Refusal
-    ensures { result ≡ record_refusal s harvest used }
-{
-    let state = shift_refusal(s);
-    let done = done_refusal(s);
-    let one = [harvest];
-    let limit = harvest_refusal(&one, s.now.recorded as u64 + 1);
-    let excess = use_refusal(s, harvest, used);
-    first_of(state, first_of(done, first_of(limit, excess)))
+    // Refusal 20.
+    pub fn check_left(self) -> Result<(), Refusal>
+        ensures { refused result ≡ all_recorded self.terms self.now }
+    {
+        check_that(self.now.recorded != self.terms.frames, Refusal::AllRecorded)
+    }
+
+    // Refusal 21.
+    fn check_use(self, harvest: u32, used: u32) -> Result<(), Refusal>
+        ensures { refused result ≡ use_too_great self.terms self.now harvest used }
+    {
+        let have = at_hand(self.terms.capacity, self.now.charge, harvest);
+        let taken = used as u64;
+        check_that(
+            taken <= have,
+            Refusal::UseTooGreat(taken.saturating_sub(have)),
+        )
+    }
+
+    // Recording. The harvest is looked at as a list of one.
+    pub(crate) fn check_record(self, harvest: u32, used: u32) -> Result<(), Refusal>
+        ensures { refused result ≡ record_refusal self harvest used }
+    {
+        self.check_shift()?;
+        self.check_left()?;
+        check_harvest(&[harvest], self.now.recorded as u64 + 1)?;
+        self.check_use(harvest, used)
+    }
 }

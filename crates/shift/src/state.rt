@@ -1,78 +1,48 @@
 // Whether a record is a shift's.
-ghost use Rattle.std.specs.Prelude.{◌≡◌, ◌+◌, ◌^◌, ◌<◌, eqb};
+ghost use Rattle.std.specs.Prelude.{◌≡◌, ◌+◌, eqb};
 ghost use Rattle.shift.specs.Shift.{are_terms, is_present, is_shift};
 
-use crate::{Present, Shift, Terms};
+use crate::{Present, Shift, Terms, Totals};
 use model::limits::{MAX_CAPACITY, MAX_FRAMES, MAX_HARVEST};
 
-// Limits at the width of the fields that they are compared with.
-const FRAMES_LIMIT: u32 = MAX_FRAMES as u32;
-
-const HARVEST_LIMIT: u64 = MAX_HARVEST as u64;
-
-// Whether the terms are within their limits.
-fn are_terms(terms: Terms) -> bool
-    ensures { result ≡ are_terms terms }
-{
-    if terms.frames == 0 {
-        return false;
+impl Terms {
+    // Whether the terms are within their limits.
+    fn are_terms(self) -> bool
+        ensures { result ≡ are_terms self }
+    {
+        self.frames >= 1
+            && self.frames as usize <= MAX_FRAMES
+            && self.capacity <= MAX_CAPACITY
+            && self.start <= self.capacity
+            && self.end <= self.capacity
     }
-    if terms.frames > FRAMES_LIMIT {
-        return false;
-    }
-    if terms.capacity > MAX_CAPACITY {
-        return false;
-    }
-    if terms.start > terms.capacity {
-        return false;
-    }
-    terms.end <= terms.capacity
 }
 
-// Whether start and harvested equal charge, used and lost. Those are taken off one by one, since their sum could wrap.
-fn balances(start: u32, harvested: u64, charge: u32, used: u64, lost: u64) -> bool
-    requires { harvested < 2 ^ 63 }
-    ensures { result ≡ eqb (start + harvested) (charge + used + lost) }
+// Whether start and harvested equal charge, used and lost. In 128 bits no sum wraps.
+fn balances(start: u32, charge: u32, totals: Totals) -> bool
+    ensures { result ≡ eqb (start + totals.harvested) (charge + totals.used + totals.lost) }
 {
-    let income = start as u64 + harvested;
-    if income < charge as u64 {
-        return false;
-    }
-    let spent = income - charge as u64;
-    if spent < used {
-        return false;
-    }
-    spent - used == lost
+    start as u128 + totals.harvested as u128
+        == charge as u128 + totals.used as u128 + totals.lost as u128
 }
 
-// Whether a shift of these terms can stand so.
-fn is_present(terms: Terms, now: Present) -> bool
-    ensures { result ≡ is_present terms now }
-{
-    if now.recorded > terms.frames {
-        return false;
+impl Present {
+    // Whether a shift of these terms can stand so.
+    fn is_present(self, terms: Terms) -> bool
+        ensures { result ≡ is_present terms self }
+    {
+        self.recorded <= terms.frames
+            && self.charge <= terms.capacity
+            && self.totals.harvested <= MAX_HARVEST as u64 * self.recorded as u64
+            && balances(terms.start, self.charge, self.totals)
     }
-    if now.charge > terms.capacity {
-        return false;
-    }
-    if now.totals.harvested > HARVEST_LIMIT * now.recorded as u64 {
-        return false;
-    }
-    balances(
-        terms.start,
-        now.totals.harvested,
-        now.charge,
-        now.totals.used,
-        now.totals.lost,
-    )
 }
 
-// Whether the record is a shift's: no to each part of refusal 22.
-pub fn is_shift(s: Shift) -> bool
-    ensures { result ≡ is_shift s }
-{
-    if !are_terms(s.terms) {
-        return false;
+impl Shift {
+    // Whether the record is a shift's: no to each part of refusal 22.
+    pub(crate) fn is_shift(self) -> bool
+        ensures { result ≡ is_shift self }
+    {
+        self.terms.are_terms() && self.now.is_present(self.terms)
     }
-    is_present(s.terms, s.now)
 }
