@@ -13,125 +13,26 @@ ghost use Rattle.std.specs.Prelude.{◌≡◌, ◌<◌, ◌≤◌, length};
 ghost use Rattle.certifier.specs.Says.{Readable};
 
 use super::curve::Curve;
-use super::knots::{Span, cleared, is_given_up};
-use super::pass::{pass, start_with};
-use certifier::{At, Rule, frame_at};
-use numbers::{TOP, lesser, low_bits, minus, plus, wide};
+use super::knots::{Knot, Knots, low_bits};
+use super::pass::Passed;
+use certifier::{Rule, frame_at};
 
-// A level above all that there is to draw.
-fn roof_of(rule: Rule) -> u64 {
-    plus(rule.energy, 1)
-}
-
-// A frame whose most is above every level where it has no upper end.
-fn frame_of(rule: Rule, harvest: &[u32], least: &[u32], most: &[u32], k: usize) -> At
+// Frame k as the curve passes it.
+fn passed(rule: Rule, harvest: &[u32], least: &[u32], most: &[u32], k: usize) -> Passed
     requires { Readable rule harvest.now least.now most.now × (k < length harvest.now) }
 {
-    let mut f = frame_at(rule, harvest, least, most, k);
-    f.most = wide(most[k]);
-    f
-}
-
-// The curve that is 0 at every level.
-fn nothing(curve: Curve, roof: u64) -> Curve {
-    let mut c = curve;
-    c.from = plus(roof, 1);
-    c.last = roof;
-    c.span = cleared(c.span);
-    c
-}
-
-// The curve behind the last frame: the end charge at every level. Its knots are to stand around a middle. It is counted up to
-// the roof, so that its full store is asked of nobody; with the last frame's it is the same for all frames that have one
-// capacity.
-fn first_curve(end: u64, full: u64, roof: u64, middle: usize) -> Curve {
-    let c = Curve {
-        from: 1,
-        last: roof,
-        full: full,
-        low: end,
-        low_step: 0,
-        high: end,
-        high_step: 0,
-        span: Span {
-            first: middle,
-            end: middle,
-            moves: 0,
-        },
-    };
-    if end == 0 {
-        return nothing(c, roof);
-    }
-    c
-}
-
-// Writes the last level at which the reserve before a frame is 0, and the last at which it is not full.
-fn note(lows: &mut [u32], highs: &mut [u32], k: usize, low: u64, high: u64)
-    requires { (k < length lows.old) × (k < length highs.old) }
-    ensures { (length lows.new ≡ length lows.old) ×
-        (length highs.new ≡ length highs.old) }
-{
-    lows[k] = low_bits(low) as u32;
-    highs[k] = low_bits(high) as u32;
-}
-
-// The curve before a frame that takes something over, with its full store; writes both levels.
-fn note_open(lows: &mut [u32], highs: &mut [u32], k: usize, curve: Curve, f: At) -> Curve
-    requires { (k < length lows.old) × (k < length highs.old) }
-    ensures { (length lows.new ≡ length lows.old) ×
-        (length highs.new ≡ length highs.old) }
-{
-    let mut c = curve;
-    c.full = minus(f.ceiling, f.inflow);
-    note(lows, highs, k, minus(c.from, 1), c.last);
-    c
-}
-
-// The curve before a frame that takes nothing over, 0 at every level; writes the frame's level as both.
-fn note_shut(lows: &mut [u32], highs: &mut [u32], k: usize, c: Curve, roof: u64) -> Curve
-    requires { (k < length lows.old) × (k < length highs.old) }
-    ensures { (length lows.new ≡ length lows.old) ×
-        (length highs.new ≡ length highs.old) }
-{
-    note(lows, highs, k, minus(c.from, 1), minus(c.from, 1));
-    nothing(c, roof)
-}
-
-// The curve before a frame, from that behind it; writes both levels.
-fn next(
-    lows: &mut [u32],
-    highs: &mut [u32],
-    knots: &mut [u64],
-    k: usize,
-    behind: Curve,
-    f: At,
-    roof: u64,
-) -> Curve
-    requires { (k < length lows.old) × (k < length highs.old) }
-    ensures { (length lows.new ≡ length lows.old) ×
-        (length highs.new ≡ length highs.old) ×
-        (length knots.new ≡ length knots.old) }
-{
-    let c = pass(knots, behind, f, lesser(f.ceiling, f.inflow), roof);
-    if f.inflow < f.ceiling {
-        return note_open(lows, highs, k, c, f);
-    }
-    note_shut(lows, highs, k, c, roof)
-}
-
-// Writes the level of the first frame, which has the start charge besides if it takes that over.
-fn note_first(lows: &mut [u32], highs: &mut [u32], knots: &[u64], c: Curve, f: At, start: u64)
-    requires { (0 < length lows.old) × (0 < length highs.old) }
-    ensures { (length lows.new ≡ length lows.old) ×
-        (length highs.new ≡ length highs.old) }
-{
-    if f.inflow < f.ceiling {
-        let level = minus(start_with(knots, c, start).from, 1);
-        note(lows, highs, 0, level, level);
+    let f = frame_at(rule, harvest, least, most, k);
+    Passed {
+        has: f.ceiling.min(f.inflow),
+        ceiling: f.ceiling,
+        drain: f.drain,
+        least: f.least,
+        most: most[k] as u64,
     }
 }
 
-// Draws the curve from behind, and writes both levels before each frame. Says whether the allowance sufficed.
+// Draws the curve from behind, and writes for each frame the last level at which the reserve before it is 0, and the last
+// at which it is not full. Says whether the allowance sufficed.
 fn draw_curve(
     rule: Rule,
     harvest: &[u32],
@@ -140,53 +41,41 @@ fn draw_curve(
     start: u64,
     lows: &mut [u32],
     highs: &mut [u32],
-    knots: &mut [u64],
+    knots: &mut [Knot],
 ) -> bool
     requires { Readable rule harvest.now least.now most.now × (0 < length harvest.now) ×
         (length harvest.now ≤ length lows.old) × (length harvest.now ≤ length highs.old) }
-    ensures { (length lows.new ≡ length lows.old) ×
-        (length highs.new ≡ length highs.old) ×
-        (length knots.new ≡ length knots.old) }
 {
-    let roof = roof_of(rule);
-    let mut k = harvest.len();
-    let mut f = frame_of(rule, harvest, least, most, k - 1);
-    let mut c = first_curve(rule.end, minus(f.ceiling, f.inflow), roof, knots.len() / 2);
-    while 0 < k {
-        k -= 1;
-        f = frame_of(rule, harvest, least, most, k);
-        c = next(lows, highs, knots, k, c, f, roof);
+    let roof = rule.energy.wrapping_add(1);
+    let count = harvest.len();
+    let mut f = passed(rule, harvest, least, most, count - 1);
+    let mut curve = Curve::at_end(rule.end, f.gap(), roof, Knots::around_middle(knots));
+    for k in (0..count).rev() {
+        f = passed(rule, harvest, least, most, k);
+        curve.pass(f);
+        lows[k] = low_bits(curve.last_empty());
+        if curve.full == 0 {
+            highs[k] = lows[k];
+            curve.vanish();
+        } else {
+            highs[k] = low_bits(curve.last);
+        }
     }
-    note_first(lows, highs, knots, c, f, start);
-    !is_given_up(c.span)
-}
-
-// The nearest level to one before it between a frame's two.
-fn nearest(low: u32, high: u32, before: u32) -> u32 {
-    let below = if high < before { high } else { before };
-    if below < low { low } else { below }
-}
-
-// A level at the roof is the top: whoever draws the most there refuses nothing more.
-fn lifted(level: u32, roof: u32) -> u32 {
-    if roof <= level {
-        low_bits(TOP) as u32
-    } else {
-        level
+    if curve.full != 0 {
+        curve.start_with(start);
+        lows[0] = low_bits(curve.last_empty());
+        highs[0] = lows[0];
     }
+    !curve.knots.are_given_up()
 }
 
-// Writes the levels over the lowest ones: each is the level before it, or the nearest between its two.
-fn choose(roof: u32, count: usize, lows: &mut [u32], highs: &[u32])
-    requires { (count ≤ length lows.old) × (count ≤ length highs.now) }
-    ensures { length lows.new ≡ length lows.old }
-{
-    let mut level = 0;
-    let mut k = 0;
-    while k < count {
-        level = nearest(lows[k], highs[k], level);
-        lows[k] = lifted(level, roof);
-        k += 1;
+// Writes the levels over the lowest ones: each is the level before it, or the nearest between its two. A level at the roof
+// is the top: whoever draws the most there refuses nothing more.
+fn choose(roof: u32, lows: &mut [u32], highs: &[u32]) {
+    let mut level = 0u32;
+    for (low, high) in lows.iter_mut().zip(highs.iter()) {
+        level = level.min(*high).max(*low);
+        *low = if roof <= level { u32::MAX } else { level };
     }
 }
 
@@ -200,27 +89,18 @@ pub fn curve_levels(
     start: u64,
     levels: &mut [u32],
     highs: &mut [u32],
-    knots: &mut [u64],
+    knots: &mut [Knot],
 ) -> bool
     requires { Readable rule harvest.now least.now most.now }
-    ensures { (length levels.new ≡ length levels.old) ×
-        (length highs.new ≡ length highs.old) ×
-        (length knots.new ≡ length knots.old) }
 {
     let count = harvest.len();
-    if count == 0 {
+    if count == 0 || levels.len() < count || highs.len() < count {
         return false;
     }
-    if levels.len() < count {
-        return false;
+    let is_drawn = draw_curve(rule, harvest, least, most, start, levels, highs, knots);
+    if is_drawn {
+        let roof = low_bits(rule.energy.wrapping_add(1).min(u32::MAX as u64));
+        choose(roof, &mut levels[..count], &highs[..count]);
     }
-    if highs.len() < count {
-        return false;
-    }
-    if draw_curve(rule, harvest, least, most, start, levels, highs, knots) {
-        let roof = low_bits(lesser(roof_of(rule), TOP)) as u32;
-        choose(roof, count, levels, highs);
-        return true;
-    }
-    false
+    is_drawn
 }

@@ -6,4 +6,5 @@ mod knots;
 mod levels;
 mod pass;
 
+pub use knots::Knot;
 pub use levels::curve_levels;

@@ -1,214 +1,192 @@
 // The curve from behind a frame to before it.
-ghost use Rattle.std.specs.Prelude.{◌≡◌, length};
+ghost use Rattle.std.specs.Prelude.{◌≤◌};
 
-use super::curve::{Curve, is_empty, narrow_high, narrow_low, widen_high, widen_low};
-use super::knots::{Span, knot, with_knot};
-use certifier::At;
-use numbers::{TOP, minus, plus};
+use super::curve::Curve;
+use super::knots::Knot;
 
-// The same curve from the first level on at which a frame that has so much needs more, with nothing behind it.
-fn widen_down(knots: &mut [u64], c: Curve, f: At, has: u64) -> Curve
-    ensures { length knots.new ≡ length knots.old }
-{
-    let mut from = 1;
-    if plus(f.drain, f.least) <= has {
-        from = plus(minus(has, f.drain), 1);
-    }
-    if c.from <= from {
-        return c;
-    }
-    if plus(f.drain, f.most) <= has {
-        return c;
-    }
-    widen_low(knots, c, from)
+// A frame that the curve passes: what it has even after an empty store, and at most that a store of its capacity brings it
+// to the ceiling; a most above every level where it has no upper end.
+#[derive(Clone, Copy)]
+pub struct Passed {
+    pub has: u64,
+    pub ceiling: u64,
+    pub drain: u64,
+    pub least: u64,
+    pub most: u64,
+    ghost capped: { has ≤ ceiling },
 }
 
-// The same curve up to the last level at which a frame does not need its ceiling, with a full store behind it.
-fn widen_up(knots: &mut [u64], c: Curve, f: At, roof: u64) -> Curve
-    ensures { length knots.new ≡ length knots.old }
-{
-    if f.ceiling <= c.full {
-        return c;
+impl Passed {
+    // The charge before it from which its store is full; 0 where it takes nothing over.
+    pub fn gap(self) -> u64 {
+        self.ceiling - self.has
     }
-    let free = minus(f.ceiling, c.full);
-    let mut last = roof;
-    if free <= plus(f.drain, f.most) {
-        last = minus(free, plus(f.drain, 1));
-    }
-    if last <= c.last {
-        return c;
-    }
-    if free <= plus(f.drain, f.least) {
-        return c;
-    }
-    widen_high(knots, c, last)
-}
 
-// The same curve over all levels at which it can leave 0 or become full in a frame that has so much.
-fn widen(knots: &mut [u64], curve: Curve, f: At, has: u64, roof: u64) -> Curve
-    ensures { length knots.new ≡ length knots.old }
-{
-    let c = widen_down(knots, curve, f, has);
-    widen_up(knots, c, f, roof)
+    // What it takes away where it draws so much.
+    fn taken(self, drawn: u64) -> u64 {
+        self.drain.wrapping_add(drawn)
+    }
 }
 
 // An end of the curve in a frame: what is needed at that level, by how much it grows there, and the knot that the frame
-// brings; 0 is none.
+// brings.
 #[derive(Clone, Copy)]
-pub struct End {
-    pub need: u64,
-    pub step: u64,
-    pub knot: u64,
+struct End {
+    need: u64,
+    step: u32,
+    knot: Option<Knot>,
 }
 
-// The knot at which a frame's draw begins to grow, if it grows, and not above the last level only.
-fn knot_at_least(c: Curve, f: At) -> u64 {
-    if f.most <= f.least {
-        return 0;
-    }
-    if c.last < f.least {
-        return 0;
-    }
-    knot(f.least, 1)
-}
-
-// The knot at which a frame's draw stops growing, if it grows, and not below the first level only.
-fn knot_at_most(c: Curve, f: At) -> u64 {
-    if f.most <= f.least {
-        return 0;
-    }
-    if f.most < c.from {
-        return 0;
-    }
-    knot(f.most, TOP)
-}
-
-// The first level with what a frame draws there.
-fn low_end(c: Curve, f: At) -> End {
-    if c.from <= f.least {
-        return End {
-            need: plus(c.low, plus(f.drain, f.least)),
-            step: c.low_step,
-            knot: knot_at_least(c, f),
+impl<'a> Curve<'a> {
+    // Counts it from the first level on at which a frame needs more than it has, with nothing behind it.
+    fn widen_down(&mut self, f: Passed) {
+        let from = if f.taken(f.least) <= f.has {
+            f.has.wrapping_sub(f.drain).wrapping_add(1)
+        } else {
+            1
         };
-    }
-    if c.from <= f.most {
-        return End {
-            need: plus(c.low, plus(f.drain, c.from)),
-            step: plus(c.low_step, 1),
-            knot: 0,
-        };
-    }
-    End {
-        need: plus(c.low, plus(f.drain, f.most)),
-        step: c.low_step,
-        knot: 0,
-    }
-}
-
-// The last level with what a frame draws there.
-fn high_end(c: Curve, f: At) -> End {
-    if f.most <= c.last {
-        return End {
-            need: plus(c.high, plus(f.drain, f.most)),
-            step: c.high_step,
-            knot: knot_at_most(c, f),
-        };
-    }
-    if f.least <= c.last {
-        return End {
-            need: plus(c.high, plus(f.drain, c.last)),
-            step: plus(c.high_step, 1),
-            knot: 0,
-        };
-    }
-    End {
-        need: plus(c.high, plus(f.drain, f.least)),
-        step: c.high_step,
-        knot: 0,
-    }
-}
-
-// The knots with two more; 0 is none. They are put in at one place of the code, so that a compiler puts it into the pass.
-fn with_knots(knots: &mut [u64], span: Span, one: u64, other: u64) -> Span
-    ensures { length knots.new ≡ length knots.old }
-{
-    let mut s = span;
-    let mut next = one;
-    let mut after = other;
-    if one == 0 {
-        if other == 0 {
-            return s;
+        if from < self.from && f.has < f.taken(f.most) {
+            self.widen_low(from);
         }
-        next = other;
-        after = 0;
     }
-    while 0 < next {
-        s = with_knot(knots, s, next);
-        next = after;
-        after = 0;
-    }
-    s
-}
 
-// The needs of a frame: with what it draws at each level.
-fn draw_all(knots: &mut [u64], curve: Curve, f: At) -> Curve
-    ensures { length knots.new ≡ length knots.old }
-{
-    let mut c = curve;
-    let low = low_end(c, f);
-    let high = high_end(c, f);
-    c.low = low.need;
-    c.low_step = low.step;
-    c.high = high.need;
-    c.high_step = high.step;
-    c.span = with_knots(knots, c.span, low.knot, high.knot);
-    c
-}
-
-// Nothing above what a full store needs, of what is needed beyond what the frame has.
-fn cut_high(knots: &[u64], curve: Curve, f: At, has: u64) -> Curve {
-    let mut c = curve;
-    if f.ceiling <= c.high {
-        return narrow_high(knots, c, minus(c.high, f.ceiling), minus(f.ceiling, has));
-    }
-    c.high = minus(c.high, has);
-    c
-}
-
-// The same, and nothing below 0.
-fn cut(knots: &[u64], curve: Curve, f: At, has: u64) -> Curve {
-    let mut c = curve;
-    if c.low <= has {
-        c = narrow_low(knots, c, minus(has, c.low));
-        if is_empty(c) {
-            return c;
+    // Counts it up to the last level at which a frame does not need its ceiling, with a full store behind it.
+    fn widen_up(&mut self, f: Passed) {
+        if f.ceiling <= self.full {
+            return;
         }
-    } else {
-        c.low = minus(c.low, has);
+        let free = f.ceiling - self.full;
+        let last = if free <= f.taken(f.most) {
+            free.wrapping_sub(f.taken(1))
+        } else {
+            self.roof
+        };
+        if self.last < last && f.taken(f.least) < free {
+            self.widen_high(last);
+        }
     }
-    cut_high(knots, c, f, has)
-}
 
-// The curve before a frame that has so much, from that behind it.
-pub fn pass(knots: &mut [u64], behind: Curve, f: At, has: u64, roof: u64) -> Curve
-    ensures { length knots.new ≡ length knots.old }
-{
-    let mut c = widen(knots, behind, f, has, roof);
-    if is_empty(c) {
-        return c;
+    // The knot at which a frame's draw begins to grow, if it grows, and not above the last level only.
+    fn knot_at_least(&self, f: Passed) -> Option<Knot> {
+        if f.least < f.most && f.least <= self.last {
+            Some(Knot::at(f.least, 1))
+        } else {
+            None
+        }
     }
-    c = draw_all(knots, c, f);
-    cut(knots, c, f, has)
-}
 
-// The curve where the first frame, before which it is, has so much more.
-pub fn start_with(knots: &[u64], c: Curve, start: u64) -> Curve {
-    if is_empty(c) {
-        return c;
+    // The knot at which a frame's draw stops growing, if it grows, and not below the first level only.
+    fn knot_at_most(&self, f: Passed) -> Option<Knot> {
+        if f.least < f.most && self.from <= f.most {
+            Some(Knot::at(f.most, u32::MAX))
+        } else {
+            None
+        }
     }
-    if start < c.low {
-        return c;
+
+    // The first level with what a frame draws there.
+    fn low_end(&self, f: Passed) -> End {
+        if self.from <= f.least {
+            End {
+                need: self.low.wrapping_add(f.taken(f.least)),
+                step: self.low_step,
+                knot: self.knot_at_least(f),
+            }
+        } else if self.from <= f.most {
+            End {
+                need: self.low.wrapping_add(f.taken(self.from)),
+                step: self.low_step.wrapping_add(1),
+                knot: None,
+            }
+        } else {
+            End {
+                need: self.low.wrapping_add(f.taken(f.most)),
+                step: self.low_step,
+                knot: None,
+            }
+        }
     }
-    narrow_low(knots, c, minus(start, c.low))
+
+    // The last level with what a frame draws there.
+    fn high_end(&self, f: Passed) -> End {
+        if f.most <= self.last {
+            End {
+                need: self.high.wrapping_add(f.taken(f.most)),
+                step: self.high_step,
+                knot: self.knot_at_most(f),
+            }
+        } else if f.least <= self.last {
+            End {
+                need: self.high.wrapping_add(f.taken(self.last)),
+                step: self.high_step.wrapping_add(1),
+                knot: None,
+            }
+        } else {
+            End {
+                need: self.high.wrapping_add(f.taken(f.least)),
+                step: self.high_step,
+                knot: None,
+            }
+        }
+    }
+
+    // Makes it the needs of a frame: with what that draws at each level.
+    fn draw(&mut self, f: Passed) {
+        let low = self.low_end(f);
+        let high = self.high_end(f);
+        self.low = low.need;
+        self.low_step = low.step;
+        self.high = high.need;
+        self.high_step = high.step;
+        // One call for both, so that a compiler puts it into the pass.
+        for knot in [low.knot, high.knot] {
+            if let Some(knot) = knot {
+                self.knots.insert(knot);
+            }
+        }
+    }
+
+    // Leaves nothing above what a full store needs, of what is needed beyond what the frame has.
+    fn cut_high(&mut self, f: Passed) {
+        if f.ceiling <= self.high {
+            self.narrow_high(self.high - f.ceiling, f.gap());
+        } else {
+            self.high = self.high.wrapping_sub(f.has);
+        }
+    }
+
+    // The same, and nothing below 0.
+    fn cut(&mut self, f: Passed) {
+        self.spend(f.has);
+        if !self.is_empty() {
+            self.cut_high(f);
+        }
+    }
+
+    // Takes so much off its first level, and leaves nothing below 0.
+    fn spend(&mut self, has: u64) {
+        if self.low <= has {
+            self.narrow_low(has - self.low);
+        } else {
+            self.low -= has;
+        }
+    }
+
+    // Takes the curve from behind a frame to before it.
+    pub fn pass(&mut self, f: Passed) {
+        self.widen_down(f);
+        self.widen_up(f);
+        if !self.is_empty() {
+            self.draw(f);
+            self.cut(f);
+        }
+        self.full = f.gap();
+    }
+
+    // Takes off what the first frame, before which it is, has besides.
+    pub fn start_with(&mut self, start: u64) {
+        if !self.is_empty() && self.low <= start {
+            self.narrow_low(start - self.low);
+        }
+    }
 }

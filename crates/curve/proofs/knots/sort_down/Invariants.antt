@@ -1,9 +1,15 @@
--- Four knots lie in the list, which keeps its length, and each is passed once.
-use Rattle.std.proofs.Common.{◌≡◌, ◌≤◌, length}
+-- Every knot lies in the list and is passed once.
+use Rattle.std.proofs.Common.{◌+◌, ◌-◌, ◌≤◌}
 use Rattle.curve.proofs.knots.sort_down.Given as goal
 
 abbrev pub invariant-loop-i : goal.invariant-loop-i
-invariant-loop-i l = (length l.knots ≡ length l.initial.knots) × (l.first ≤ l.i) × (l.i ≤ l.end)
+invariant-loop-i l = (l.first ≤ l.i) × (l.i ≤ l.end)
 
 abbrev pub decreases-loop-i : goal.decreases-loop-i
 decreases-loop-i l = l.i
+
+abbrev pub invariant-loop-i-2 : goal.invariant-loop-i-2
+invariant-loop-i-2 l = (l.first ≤ l.i) × (l.i ≤ l.end)
+
+abbrev pub decreases-loop-i-2 : goal.decreases-loop-i-2
+decreases-loop-i-2 l = l.i
