@@ -34,15 +34,15 @@ impl<'a> Curve<'a> {
     // that its full store is asked of nobody; with the last frame's it is the same for all frames that have one capacity.
     pub fn at_end(end: u64, full: u64, roof: u64, knots: Knots<'a>) -> Curve<'a> {
         let mut c = Curve {
-            roof: roof,
+            roof,
             from: 1,
             last: roof,
-            full: full,
+            full,
             low: end,
             low_step: 0,
             high: end,
             high_step: 0,
-            knots: knots,
+            knots,
         };
         if end == 0 {
             c.vanish();
@@ -100,8 +100,7 @@ impl<'a> Curve<'a> {
             .put_last(Knot::at(self.last, step.wrapping_sub(self.high_step)));
         self.high_step = step;
         if self.last.wrapping_add(1) < last {
-            self.knots
-                .put_last(Knot::at(self.last.wrapping_add(1), 0u32.wrapping_sub(step)));
+            self.knots.put_last(Knot::at(self.last.wrapping_add(1), 0u32.wrapping_sub(step)));
             self.high_step = 0;
         }
     }

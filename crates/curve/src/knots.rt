@@ -13,31 +13,31 @@ pub fn low_bits(x: u64) -> u32 {
 // A level, of which the low 32 bits count, and the change of the growth there, modulo 2^32.
 #[derive(Clone, Copy, Default)]
 pub struct Knot {
-    pub place: u32,
-    pub bend: u32,
+    place: u32,
+    bend: u32,
 }
 
 impl Knot {
     // The knot at a level.
-    pub fn at(level: u64, bend: u32) -> Knot {
+    pub(super) fn at(level: u64, bend: u32) -> Knot {
         Knot {
             place: low_bits(level),
-            bend: bend,
+            bend,
         }
     }
 
     // Its level.
-    pub fn level(self) -> u64 {
+    pub(super) fn level(self) -> u64 {
         self.place as u64
     }
 
     // The growth above it, from that below it.
-    pub fn above(self, step: u32) -> u32 {
+    pub(super) fn above(self, step: u32) -> u32 {
         step.wrapping_add(self.bend)
     }
 
     // The growth below it, from that above it.
-    pub fn below(self, step: u32) -> u32 {
+    pub(super) fn below(self, step: u32) -> u32 {
         step.wrapping_sub(self.bend)
     }
 }
@@ -57,7 +57,7 @@ impl<'a> Knots<'a> {
     pub fn around_middle(list: &'a mut [Knot]) -> Knots<'a> {
         let middle = list.len() / 2;
         Knots {
-            list: list,
+            list,
             first: middle,
             end: middle,
             moves: 0,
@@ -99,15 +99,21 @@ impl<'a> Knots<'a> {
         let middle = self.first + (self.end - self.first) / 2;
         if knot.place < self.list[middle].place {
             let i = sort_up(self.list, self.first, self.end, knot);
-            self.moves = self.moves.wrapping_add(i.wrapping_sub(self.first));
+            self.moves = self.moves.wrapping_add(i - self.first);
             self.first -= 1;
         } else {
             let i = sort_down(self.list, self.first, self.end, knot);
-            self.moves = self.moves.wrapping_add(self.end.wrapping_sub(i));
+            self.moves = self.moves.wrapping_add(self.end - i);
             self.end += 1;
         }
     }
 }
+
+// Where a knot goes is searched and made room for knot by knot, four at a time as long as there are four: by
+// `partition_point` and `copy_within`, or by one knot at a time, the curve takes 11 to 16 % more instructions, and where
+// all bounds are close by 35 to 45 % more, a fifth more than a plan may take there. As methods of `Knots` the two
+// functions would keep its ends in memory; so the list and both ends are handed on. They are no twins: one goes up and
+// writes below, the other goes down and writes above.
 
 // Four knots go to another place.
 fn move_four(list: &mut [Knot], from: usize, to: usize)
@@ -123,38 +129,48 @@ fn move_four(list: &mut [Knot], from: usize, to: usize)
     list[to + 3] = d;
 }
 
-// Writes a knot before all that are not below it; those from `first` on that are below it go down by one place, four at
-// a time as long as there are four. Gives where the next one stands.
+// Writes a knot before all that are not below it; those from `first` on that are below it go down by one place. Gives
+// where the next one stands.
 fn sort_up(list: &mut [Knot], first: usize, end: usize, knot: Knot) -> usize
     requires { (0 < first) × (first ≤ end) × (end ≤ length list.old) }
+    ensures { (first ≤ result) × (result ≤ end) }
 {
-    let mut i = first;
-    while i + 4 <= end && list[i + 3].place < knot.place {
-        move_four(list, i, i - 1);
-        i += 4;
+    let mut from = first;
+    while from + 4 <= end && list[from + 3].place < knot.place {
+        move_four(list, from, from - 1);
+        from += 4;
     }
-    while i < end && list[i].place < knot.place {
-        list[i - 1] = list[i];
-        i += 1;
+    for i in from..end {
+        let next = list[i];
+        if knot.place <= next.place {
+            list[i - 1] = knot;
+            return i;
+        }
+        list[i - 1] = next;
     }
-    list[i - 1] = knot;
-    i
+    list[end - 1] = knot;
+    end
 }
 
-// Writes a knot behind all that are not above it; those before `end` that are above it go up by one place, four at a
-// time as long as there are four. Gives where it stands.
+// Writes a knot behind all that are not above it; those before `end` that are above it go up by one place. Gives where it
+// stands.
 fn sort_down(list: &mut [Knot], first: usize, end: usize, knot: Knot) -> usize
     requires { (first ≤ end) × (end < length list.old) }
+    ensures { (first ≤ result) × (result ≤ end) }
 {
-    let mut i = end;
-    while first + 4 <= i && knot.place < list[i - 4].place {
-        i -= 4;
-        move_four(list, i, i + 1);
+    let mut to = end;
+    while first + 4 <= to && knot.place < list[to - 4].place {
+        to -= 4;
+        move_four(list, to, to + 1);
     }
-    while first < i && knot.place < list[i - 1].place {
-        list[i] = list[i - 1];
-        i -= 1;
+    for i in (first..to).rev() {
+        let next = list[i];
+        if next.place <= knot.place {
+            list[i + 1] = knot;
+            return i + 1;
+        }
+        list[i + 1] = next;
     }
-    list[i] = knot;
-    i
+    list[first] = knot;
+    first
 }

@@ -10,49 +10,50 @@
 // Most knots are written and met near an end of the curve. Where many lie between, a new one has many others moved;
 // there is an allowance for that, and where it is used up, no more are put in and the guess is given up.
 ghost use Rattle.std.specs.Prelude.{◌≡◌, ◌<◌, ◌≤◌, length};
-ghost use Rattle.certifier.specs.Says.{Readable};
+ghost use Rattle.certifier.specs.Says.{frame_count};
 
 use super::curve::Curve;
 use super::knots::{Knot, Knots, low_bits};
 use super::pass::Passed;
-use certifier::{Rule, frame_at};
+use certifier::Frames;
 
 // Frame k as the curve passes it.
-fn passed(rule: Rule, harvest: &[u32], least: &[u32], most: &[u32], k: usize) -> Passed
-    requires { Readable rule harvest.now least.now most.now × (k < length harvest.now) }
+fn passed(frames: Frames, k: usize) -> Passed
+    requires { k < frame_count frames }
 {
-    let f = frame_at(rule, harvest, least, most, k);
+    let f = frames.at(k);
     Passed {
         has: f.ceiling.min(f.inflow),
         ceiling: f.ceiling,
         drain: f.drain,
         least: f.least,
-        most: most[k] as u64,
+        most: frames.lists.most[k] as u64,
     }
 }
 
 // Draws the curve from behind, and writes for each frame the last level at which the reserve before it is 0, and the last
 // at which it is not full. Says whether the allowance sufficed.
 fn draw_curve(
-    rule: Rule,
-    harvest: &[u32],
-    least: &[u32],
-    most: &[u32],
+    frames: Frames,
     start: u64,
     lows: &mut [u32],
     highs: &mut [u32],
     knots: &mut [Knot],
 ) -> bool
-    requires { Readable rule harvest.now least.now most.now × (0 < length harvest.now) ×
-        (length harvest.now ≤ length lows.old) × (length harvest.now ≤ length highs.old) }
+    requires { (0 < frame_count frames) ×
+        (frame_count frames ≤ length lows.old) × (frame_count frames ≤ length highs.old) }
 {
-    let roof = rule.energy.wrapping_add(1);
-    let count = harvest.len();
-    let mut f = passed(rule, harvest, least, most, count - 1);
-    let mut curve = Curve::at_end(rule.end, f.gap(), roof, Knots::around_middle(knots));
+    let count = frames.count();
+    let roof = frames.rule.energy + 1;
+    let last = passed(frames, count - 1);
+    let mut curve = Curve::at_end(
+        frames.rule.end,
+        last.gap(),
+        roof,
+        Knots::around_middle(knots),
+    );
     for k in (0..count).rev() {
-        f = passed(rule, harvest, least, most, k);
-        curve.pass(f);
+        curve.pass(passed(frames, k));
         lows[k] = low_bits(curve.last_empty());
         if curve.full == 0 {
             highs[k] = lows[k];
@@ -82,24 +83,19 @@ fn choose(roof: u32, lows: &mut [u32], highs: &[u32]) {
 // Writes the levels at which the curve leaves 0 or becomes full where the levels turn. Says whether it was not
 // given up; `highs` and `knots` are scratch.
 pub fn curve_levels(
-    rule: Rule,
-    harvest: &[u32],
-    least: &[u32],
-    most: &[u32],
+    frames: Frames,
     start: u64,
     levels: &mut [u32],
     highs: &mut [u32],
     knots: &mut [Knot],
-) -> bool
-    requires { Readable rule harvest.now least.now most.now }
-{
-    let count = harvest.len();
+) -> bool {
+    let count = frames.count();
     if count == 0 || levels.len() < count || highs.len() < count {
         return false;
     }
-    let is_drawn = draw_curve(rule, harvest, least, most, start, levels, highs, knots);
+    let is_drawn = draw_curve(frames, start, levels, highs, knots);
     if is_drawn {
-        let roof = low_bits(rule.energy.wrapping_add(1).min(u32::MAX as u64));
+        let roof = low_bits((frames.rule.energy + 1).min(u32::MAX as u64));
         choose(roof, &mut levels[..count], &highs[..count]);
     }
     is_drawn

@@ -1,15 +1,12 @@
--- Every knot lies in the list and is passed once.
+-- Four knots lie in the list, and each knot is passed once.
 use Rattle.std.proofs.Common.{◌+◌, ◌-◌, ◌≤◌}
 use Rattle.curve.proofs.knots.sort_up.Given as goal
 
+abbrev pub invariant-loop-from : goal.invariant-loop-from
+invariant-loop-from l = (l.first ≤ l.from) × (l.from ≤ l.end)
+
+abbrev pub decreases-loop-from : goal.decreases-loop-from
+decreases-loop-from l = l.end + 1 - l.from
+
 abbrev pub invariant-loop-i : goal.invariant-loop-i
-invariant-loop-i l = (l.first ≤ l.i) × (l.i ≤ l.end)
-
-abbrev pub decreases-loop-i : goal.decreases-loop-i
-decreases-loop-i l = l.end + 1 - l.i
-
-abbrev pub invariant-loop-i-2 : goal.invariant-loop-i-2
-invariant-loop-i-2 l = (l.first ≤ l.i) × (l.i ≤ l.end)
-
-abbrev pub decreases-loop-i-2 : goal.decreases-loop-i-2
-decreases-loop-i-2 l = l.end - l.i
+invariant-loop-i l = (l.first ≤ l.from) × (l.from ≤ l.end)
