@@ -1,4 +1,6 @@
 // The frame rule as code, for every entry that follows charges.
+// Capacity, charge and harvest stay parameters of their own: the charge is a u32 for two functions and an i64 for one,
+// and a struct of the three would be made anew for each frame, of a figure, what is followed and an entry of a list.
 ghost use Rattle.std.specs.Prelude.{◌≡◌, ◌≤◌, ◌<◌, ◌^◌};
 ghost use Rattle.std.specs.Int.Signed.{mag};
 ghost use Rattle.model.specs.Charge.{at_hand, frame_end};

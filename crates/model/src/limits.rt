@@ -18,7 +18,7 @@ pub const MAX_HARVEST: u32 = 400_000;
 // The largest least of a frame, and the largest most that is an upper end.
 pub const MAX_BOUND: u32 = 536_870_911;
 
-// As a most: no upper end.
+// As a most: no upper end. A number and no Option, since the C interface lends the mosts as a list of numbers.
 pub const NO_UPPER_END: u32 = 4_294_967_295;
 
 // The largest capacity; for the needed capacity, the largest start and end charge.

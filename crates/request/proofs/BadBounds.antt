@@ -6,7 +6,7 @@ use Prim.Native.Nat.{ℕ, zero, suc, ◌≤◌, ◌<◌}
 use native.Mathlib.Omega.{arith}
 use lib.Dec.{ltb, eqb}
 use lib.ListN.{length, get_or}
-use borrow.Author.Tests.{lt-ltb, le-ltb, ltb-false, eqb-true}
+use borrow.Author.Tests.{ltb-false, eqb-true}
 use Rattle.std.proofs.Common.{Option, map}
 use Rattle.std.specs.List.{position_from, zip}
 use Rattle.model.specs.Refusals.{Refusal}
@@ -14,22 +14,6 @@ use Rattle.model.specs.Limits.{max_bound, no_upper_end}
 use Rattle.model.specs.Request.{Bounds, absent, bounds, bounds_of}
 use Rattle.model.specs.Refusals.{refusal, none, is_none, bad_bounds, bounds_refused}
 use Rattle.request.proofs.Place.{at_place, by_place}
-
--- ---- the bounds of one frame, by the tests that the code makes
-module _ (l m : ℕ) where
-  pub above_most : m < l → true ≡ bad_bounds (bounds l m)
-  above_most p = rw (lt-ltb m l p)
-
-  module _ (p : l ≤ m) where
-    pub least_over : max_bound < l → true ≡ bad_bounds (bounds l m)
-    least_over q = rw (le-ltb m l p, lt-ltb max_bound l q)
-
-    module _ (q : l ≤ max_bound) where
-      pub most_over : max_bound < m → not (eqb m no_upper_end) ≡ bad_bounds (bounds l m)
-      most_over r = rw (le-ltb m l p, le-ltb max_bound l q, lt-ltb max_bound m r)
-
-      pub bounds_good : m ≤ max_bound → false ≡ bad_bounds (bounds l m)
-      bounds_good r = rw (le-ltb m l p, le-ltb max_bound l q, le-ltb max_bound m r)
 
 -- a frame's bounds that are not bad
 pub record BoundsFit (l m : ℕ) : Type 0 where

@@ -103,14 +103,3 @@ reach_left r left e =
     go true q false s = refl
     go false q true s = refl
     go false q false s = let z = eqb-false p 0 s in let l = ltb-false m r.figures.end q in absurd (z (omega arith))
-
--- no refusal 9 has P 0
-pub reach_none : (r : Request) → is_none (out_of_reach r) ≡ true → out_of_reach r ≡ none
-reach_none r e = go (ltb (most_energy r) r.figures.end) e
-  where
-    p : ℕ
-    p = r.figures.end - most_energy r
-
-    go : (t : Bool) → is_none (pick t (refusal 9 p) none) ≡ true → pick t (refusal 9 p) none ≡ none
-    go true q = absurd (false≢true q)
-    go false q = refl

@@ -3,45 +3,22 @@
 use mathlib.Core.Path.{◌≡◌, refl, sym, ap}
 use mathlib.Core.Bool.{Bool, true, false, not, ◌&&◌, ◌||◌, false≢true}
 use mathlib.Core.List.{List, [], ◌∷◌}
-use Prim.Native.Nat.{ℕ, suc, ◌+◌, ◌≤◌, ◌<◌}
+use Prim.Native.Nat.{ℕ, suc, ◌≤◌}
 use native.Mathlib.Omega.{arith}
-use native.Mathlib.Numerals.{add-one}
-use lib.Dec.{leb, eqb}
-use lib.ListN.{length, get_or, drop, drop_of_length-le}
-use lib.Seq.{drop-cons}
-use borrow.Author.Tests.{le-leb, lt-leb}
+use lib.Dec.{eqb}
+use lib.ListN.{length}
+use borrow.Author.Tests.{le-leb}
 use Rattle.model.specs.Refusals.{Refusal}
 use Rattle.model.specs.declared.Figures.{Figures}
 use Rattle.model.specs.Limits.{no_upper_end}
 use Rattle.model.specs.Request.{Bounds, Request, bounds, bounds_of, bounded_request, leasts_from, leasts, with_capacity}
 use Rattle.model.specs.Request.{most_energy}
-use Rattle.model.specs.Charge.{at_hand, frame_end, feasible_from, within_bounds, all_within, feasible}
+use Rattle.model.specs.Charge.{feasible_from, within_bounds, all_within, feasible}
 use Rattle.model.specs.Refusals.{refusal, is_none, refuse_if, first_of, bad_bounds, bounds_refused, out_of_reach}
 use Rattle.model.specs.Refusals.{leasts_refused, leasts_refused_unlimited}
 use Rattle.model.proofs.Reach.{unlimited_storage}
 use Rattle.request.specs.Reach.{unreachable_by}
 use Rattle.request.proofs.BadBounds.{BoundsFit, bounds_fit}
-
--- ---- the leasts drawn, one after the other
-module _ (c e x i : ℕ) (hs ls : List ℕ) (long : length ls ≡ length hs) where
-  -- one that is at hand is drawn
-  pub least_drawn : i < length hs → get_or ls i 0 ≤ at_hand c x (get_or hs i 0) →
-      feasible_from c e (frame_end c x (get_or hs i 0) (get_or ls i 0)).charge (drop (i + 1) hs) (drop (i + 1) ls)
-      ≡ feasible_from c e x (drop i hs) (drop i ls)
-  least_drawn l h =
-      rw (add-one i, drop-cons hs i 0 l, drop-cons ls i 0 (omega arith), le-leb (get_or ls i 0) (at_hand c x (get_or hs i 0)) h)
-      refl
-
-  -- one that is not ends it
-  pub least_short : i < length hs → at_hand c x (get_or hs i 0) < get_or ls i 0 →
-      false ≡ feasible_from c e x (drop i hs) (drop i ls)
-  least_short l h =
-      rw (drop-cons hs i 0 l, drop-cons ls i 0 (omega arith), lt-leb (get_or ls i 0) (at_hand c x (get_or hs i 0)) h) refl
-
-  -- past the last frame the end charge decides
-  pub leasts_passed : length hs ≤ i → leb e x ≡ feasible_from c e x (drop i hs) (drop i ls)
-  leasts_passed l =
-      rw (drop_of_length-le hs {i = i} l, drop_of_length-le ls {i = i} (omega arith)) refl
 
 -- ---- the leasts within the bounds
 

@@ -1,4 +1,8 @@
 // Refusals 9 and 11: whether the end charge is in reach, and whether the leasts taken as budgets are feasible.
+// Figures and harvest stay two parameters, here and in the other files: C lends the two without bounds to tracing, so a
+// struct of them would be no part of `Request`, and be made of its parts at each call.
+// That lists are of one length stays a clause: it is of leasts and mosts here, of leasts and harvests there; one type
+// for all three would ask `check_bounds` for harvests and `check_reachable` for mosts.
 ghost use Rattle.std.specs.Prelude.{◌≡◌, ◌+◌, ◌*◌, ◌≤◌, length};
 ghost use Rattle.model.specs.Answer.{refused, asked};
 ghost use Rattle.model.specs.Limits.{max_capacity, max_frames, max_harvest};
