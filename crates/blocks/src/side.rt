@@ -29,7 +29,8 @@ impl From<Side> for Mark {
     }
 }
 
-// Marks are kept in a list of numbers that is lent: there is no memory for one of their own.
+// Marks are kept as numbers, in the list that is lent for how often frames were weighed: no heap, and no list of marks
+// beside it.
 impl From<Mark> for u32 {
     fn from(mark: Mark) -> u32 {
         mark as u32

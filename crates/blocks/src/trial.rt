@@ -107,11 +107,12 @@ impl Block {
 
     // A likely level: in turn the mean, the straight way where there is one, the mean, the middle.
     fn likely(self, frames: Frames) -> u64 {
-        match self.tries % 4 {
-            3 => self.bounds.middle(),
-            1 => self.straight().unwrap_or_else(|| self.mean(frames)),
-            _ => self.mean(frames),
+        let turn = self.tries % 4;
+        if turn == 3 {
+            return self.bounds.middle();
         }
+        let straight = if turn == 1 { self.straight() } else { None };
+        straight.unwrap_or_else(|| self.mean(frames))
     }
 
     // The level to try in the block: a likely one within its interval.

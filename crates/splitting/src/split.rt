@@ -47,6 +47,35 @@ fn bounds_on(side: Side, level: u32, bounds: Bounds) -> Bounds {
     }
 }
 
+// Parts a block that was weighed at a level: by its frames' marks writes the new bounds, and over them how often it was
+// weighed. Gives the end of the first part.
+// The lists come one by one: as a method, which takes the block's part of three fields at once, it is not covered by
+// the borrow checker (tried), and one field after the other in a loop it took a twentieth more instructions.
+fn part(block: Block, level: u32, lows: &mut [u32], highs: &mut [u32], tries: &mut [u32]) -> usize {
+    let (Some(lows), Some(highs), Some(tries)) = (
+        lows.get_mut(block.from..block.to),
+        highs.get_mut(block.from..block.to),
+        tries.get_mut(block.from..block.to),
+    ) else {
+        return block.to;
+    };
+    let mut side = Side::Level;
+    let mut first = None;
+    let mut cut = None;
+    let bounds = lows.iter_mut().zip(highs.iter_mut());
+    for ((k, mark), (low, high)) in (block.from..block.to).zip(tries.iter_mut()).zip(bounds) {
+        side = side.next(*mark);
+        if side != *first.get_or_insert(side) {
+            cut = cut.or(Some(k));
+        }
+        let bounds = bounds_on(side, level, block.bounds);
+        *low = bounds.low;
+        *high = bounds.high;
+        *mark = block.tries.wrapping_add(1);
+    }
+    cut.unwrap_or(block.to)
+}
+
 impl<'f, 'l> Splitting<'f, 'l> {
     // The lists as they stand.
     fn levels(&self) -> Levels<'_> {
@@ -74,29 +103,6 @@ impl<'f, 'l> Splitting<'f, 'l> {
         }
     }
 
-    // The side of a frame behind one of another side, by its mark.
-    fn side_of(&self, k: usize, before: Side) -> Side {
-        match self.tries.get(k) {
-            Some(&mark) => before.next(mark),
-            None => before,
-        }
-    }
-
-    // Parts a block by the marks of a level: writes the new bounds. Gives the end of the first part.
-    fn part(&mut self, block: Block, level: u32) -> usize {
-        let first = self.side_of(block.from, Side::Level);
-        let mut side = first;
-        let mut cut = None;
-        for k in block.from..block.to {
-            side = self.side_of(k, side);
-            if side != first {
-                cut = cut.or(Some(k));
-            }
-            self.bound(k, bounds_on(side, level, block.bounds));
-        }
-        cut.unwrap_or(block.to)
-    }
-
     // The first part of a block that was parted before frame `cut`, and what its first frame needed.
     fn first_part(&self, block: Block, needs: Needs, cut: usize) -> Block {
         let bounds = self.levels().bounds(block.from);
@@ -119,12 +125,8 @@ impl<'f, 'l> Splitting<'f, 'l> {
     fn divide(&mut self, block: Block) -> Block {
         let level = block.level_to_try(self.frames);
         let needs = block.weigh(self.frames, level, self.tries);
-        let cut = self.part(block, level);
-        let first = self.first_part(block, needs, cut);
-        if let Some(tries) = self.tries.get_mut(block.from..block.to) {
-            tries.fill(first.tries);
-        }
-        first
+        let cut = part(block, level, self.lows, self.highs, self.tries);
+        self.first_part(block, needs, cut)
     }
 
     // Gives a block of one frame its level.
