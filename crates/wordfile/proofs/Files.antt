@@ -19,7 +19,7 @@ use Rattle.wordfile.specs.File.{bound_at, past_least, harvest_at, least_at, most
 use Rattle.wordfile.specs.File.{request_of, request_in, least_words, most_words, words_of_frames, file_words, file_bytes}
 use Rattle.wordfile.specs.File.{pithy}
 use Rattle.wordfile.specs.declared.form.Step.TheVariants.{On, End, Wrong}
-use Rattle.wordfile.specs.declared.form.Form.TheVariants.{Closed, Broken}
+use Rattle.wordfile.specs.Form.{Closed, Broken}
 use Rattle.wordfile.proofs.Machine.{Did, figure, harvest, bound, ended, broke, did, next_is}
 use Rattle.wordfile.proofs.Found.{found_end, found_harvest, found_figure, found_bound}
 

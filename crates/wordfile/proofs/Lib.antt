@@ -1,6 +1,7 @@
 -- Laws of the form, of what the frames say, of the file; reading back what was written; which files are the writer's;
 -- broken files.
 pub mod Machine
+pub mod Sorts
 pub mod Found
 pub mod Files
 pub mod Put

@@ -15,8 +15,10 @@ use Rattle.wordfile.specs.Form.{state, bound_step, step_of, scan, place_in}
 use Rattle.wordfile.specs.declared.form.State.{State}
 use Rattle.wordfile.specs.declared.form.Step.{Step}
 use Rattle.wordfile.specs.declared.form.Step.TheVariants.{On, End, Wrong}
-use Rattle.wordfile.specs.declared.form.Form.{Form}
-use Rattle.wordfile.specs.declared.form.Form.TheVariants.{Closed, Broken}
+use Rattle.wordfile.specs.Form.{Form, Closed, Broken}
+use Rattle.std.specs.Prelude.{Ok}
+use Rattle.wordfile.specs.declared.form.Closed.{Closed as ClosedFile}
+use Rattle.wordfile.specs.Says.{scanned}
 
 -- what a bound does, by the test that the code makes of its mark m
 module _ (s : State) (w : ℕ) {m : ℕ} (mark : m ≡ mark_of w) where
@@ -176,3 +178,8 @@ place_within s i (w ∷ ws) =
     go (On t) p = omega (arith, p t)
     go End p = omega arith
     go Wrong p = omega arith
+
+-- the words of a file that closed are up to the place that its form names
+pub closed_within : {c : ClosedFile} (f : Form) → Ok c ≡ scanned f → c.words ≤ place_in f
+closed_within {c} (Closed n k) e = let z : c.words ≡ n = cc in omega arith
+closed_within {c} (Broken p) e = let z : ◌≡◌ {A = ℕ} 0 1 = cc in omega arith

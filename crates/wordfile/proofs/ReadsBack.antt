@@ -6,6 +6,9 @@ use native.Mathlib.Omega.{arith}
 use lib.ListN.{length, take, drop}
 use lib.Seq.{drop_at}
 use Rattle.model.specs.declared.Figures.{Figures}
+use Rattle.std.specs.Prelude.{Result}
+use Rattle.model.specs.declared.refusal.Refusal.{Refusal as Given}
+use Rattle.model.specs.Answer.{said}
 use Rattle.model.specs.Refusals.{Refusal}
 use Rattle.model.specs.Request.{Bounds, Request, bounds_of, bounded_request}
 use Rattle.model.specs.Refusals.{gives, outcome}
@@ -13,9 +16,8 @@ use Rattle.model.proofs.Outcome.{gave}
 use Rattle.model.specs.Lent.{over}
 use Rattle.words.specs.Words.{words_of}
 use Rattle.wordfile.specs.File.{leasts_in, mosts_in, request_in, write_refusal, file_bytes}
-use Rattle.wordfile.specs.Says.{ReadSays, WriteSays, read_said, write_said, header_of, filled}
-use Rattle.wordfile.specs.declared.reader.ReadAnswer.{ReadAnswer}
-use Rattle.wordfile.specs.declared.writer.WriteAnswer.{WriteAnswer}
+use Rattle.wordfile.specs.Says.{ReadSays, WriteSays, header_of, filled}
+use Rattle.wordfile.specs.declared.reader.Header.{Header}
 use Rattle.wordfile.proofs.Refused.{leasts_length, mosts_length, write_within}
 
 -- the leasts and the mosts of bounds made of two lists
@@ -33,10 +35,10 @@ mosts_of (l ∷ ls) (m ∷ ms) e = ap (λ (y : List ℕ). m ∷ y) (mosts_of ls 
 -- a request's figures and lists are written into o, which gives n bytes; those are read with lists h, l and m lent, each
 -- of at least K entries
 pub reads_back :
-    (f : Figures) (hs ls ms o o' h l m h' l' m' : List ℕ) (w : WriteAnswer) (r : ReadAnswer) (n : ℕ) →
-    let q = bounded_request f hs ls ms in WriteSays q (length ls) (length ms) o o' w → write_said w ≡ gives n →
+    (f : Figures) (hs ls ms o o' h l m h' l' m' : List ℕ) (w : Result ℕ Given) (r : Result Header Given) (n : ℕ) →
+    let q = bounded_request f hs ls ms in WriteSays q (length ls) (length ms) o o' w → said w ≡ gives n →
     ReadSays (take n o') h l m h' l' m' r → length hs ≤ length h → length hs ≤ length l → length hs ≤ length m →
-    (read_said r ≡ gives (header_of q))
+    (said r ≡ gives (header_of q))
     × (h' ≡ over hs h)
     × (l' ≡ over ls l)
     × (m' ≡ over ms m)

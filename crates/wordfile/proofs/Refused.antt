@@ -9,6 +9,10 @@ use borrow.Author.Tests.{le-ltb, ltb-false}
 use lib.ListN.{length, take, drop}
 use lib.Seq.{take_at}
 use Rattle.model.specs.declared.Figures.{Figures}
+use Rattle.std.specs.Prelude.{Ok, Err}
+use Rattle.model.specs.declared.refusal.Refusal.{Refusal as Given}
+use Rattle.model.specs.Answer.{told}
+use Rattle.model.proofs.Answer.{told_some}
 use Rattle.model.specs.Refusals.{Refusal}
 use Rattle.model.specs.Choice.{pick}
 use Rattle.model.specs.Lent.{over}
@@ -27,10 +31,7 @@ use Rattle.wordfile.specs.File.{too_short, form_refusals, read_refusals, read_re
 use Rattle.wordfile.specs.File.{file_words, file_bytes, pithy, Fits, content_refusals}
 use Rattle.wordfile.specs.File.{write_refusals, write_refusal}
 use Rattle.wordfile.specs.Says.{ReadSays, WriteSays, read_refused}
-use Rattle.wordfile.specs.declared.form.Form.{Form}
-use Rattle.wordfile.specs.declared.form.Form.TheVariants.{Closed, Broken}
-use Rattle.wordfile.specs.declared.reader.ReadAnswer.TheVariants as Read
-use Rattle.wordfile.specs.declared.writer.WriteAnswer.TheVariants as Write
+use Rattle.wordfile.specs.Form.{Form, Closed, Broken}
 use Rattle.wordfile.proofs.Machine.{place_within}
 use Rattle.wordfile.proofs.Found.{frames_length}
 use Rattle.wordfile.proofs.Files.{closed_is, accepted_file}
@@ -132,9 +133,9 @@ read_small s h l m = go (ltb max_file_bytes (length s)) refl
 
 -- the reader's promise where it refuses
 pub read_refused_lem :
-    (s h l m : List ℕ) (f : Refusal) → f ≡ read_refused s h l m → is_none f ≡ false →
-    ReadSays s h l m h l m (Read.Refused f)
-read_refused_lem s h l m f e n =
+    (s h l m : List ℕ) (f : Given) → told f ≡ read_refused s h l m → ReadSays s h l m h l m (Err f)
+read_refused_lem s h l m f e =
+    let n = told_some f in
     record {
       answer = rw (← e, n);
       harvest = rw (← e, n);
@@ -148,7 +149,7 @@ pub read_accepted :
     (s h l m h' l' m' : List ℕ) (x : Figures) (k : ℕ) → is_none (read_refused s h l m) ≡ true →
     x ≡ figures_in (words_of s) → k ≡ length (harvests_in (words_of s)) → h' ≡ over (harvests_in (words_of s)) h →
     l' ≡ over (leasts_in (words_of s)) l → m' ≡ over (mosts_in (words_of s)) m →
-    ReadSays s h l m h' l' m' (Read.Accepted record { figures = x; frames = k })
+    ReadSays s h l m h' l' m' (Ok record { figures = x; frames = k })
 read_accepted s h l m h' l' m' x k e p q a b c =
     record {
       answer = rw (e, p, q);
@@ -191,9 +192,10 @@ write_within q l m room e =
 
 -- the writer's promise where it refuses
 pub write_refused :
-    (q : Request) (l m : ℕ) (o : List ℕ) (f : Refusal) → f ≡ write_refusal q l m (length o) → is_none f ≡ false →
-    WriteSays q l m o o (Write.Refused f)
-write_refused q l m o f e n =
+    (q : Request) (l m : ℕ) (o : List ℕ) (f : Given) → told f ≡ write_refusal q l m (length o) →
+    WriteSays q l m o o (Err f)
+write_refused q l m o f e =
+    let n = told_some f in
     record {
       answer = rw (← e, n);
       bytes = rw (← e, n);
@@ -214,7 +216,7 @@ file_read q x y z f each k a b c =
 pub write_written :
     (q : Request) (l m : ℕ) (o o' : List ℕ) (n : ℕ) → length q.bounds ≡ frame_count q →
     is_none (write_refusal q l m (length o)) ≡ true → o' ≡ over (file_bytes q) o → n ≡ length (file_bytes q) →
-    WriteSays q l m o o' (Write.Written n)
+    WriteSays q l m o o' (Ok n)
 write_written q l m o o' n each e f size =
     record {
       answer = rw e (ap gives size);

@@ -21,8 +21,7 @@ use Rattle.wordfile.specs.File.{bound_at, past_least, harvest_at, least_at, most
 use Rattle.wordfile.specs.File.{request_of, request_in, least_words, most_words, words_of_frames}
 use Rattle.wordfile.specs.File.{file_words, file_bytes, pithy, BoundsFit, MostFits, Fits}
 use Rattle.wordfile.specs.declared.form.Step.TheVariants.{On, End}
-use Rattle.wordfile.specs.declared.form.Form.{Form}
-use Rattle.wordfile.specs.declared.form.Form.TheVariants.{Closed}
+use Rattle.wordfile.specs.Form.{Form, Closed}
 use Rattle.wordfile.proofs.Machine as machine
 use Rattle.wordfile.proofs.Machine.{next_is, is_figure, is_harvest, is_end}
 use Rattle.wordfile.proofs.Found as found

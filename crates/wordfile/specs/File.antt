@@ -1,5 +1,5 @@
 -- The request in a word file, what its reader refuses, the file of a request, and what its writer refuses.
-use Rattle.std.specs.Prelude.{◌≡◌, List, [], ◌∷◌, ◌++◌, ℕ, ◌+◌, ◌*◌, ◌^◌, ◌<◌, eqb, ltb, length, get_or, drop}
+use Rattle.std.specs.Prelude.{◌≡◌, Bool, List, [], ◌∷◌, ◌++◌, ℕ, ◌+◌, ◌*◌, ◌^◌, ◌<◌, eqb, ltb, length, get_or, drop}
 use Rattle.model.specs.declared.Figures.{Figures}
 use Rattle.model.specs.Refusals.{Refusal}
 use Rattle.model.specs.Choice.{pick}
@@ -9,8 +9,7 @@ use Rattle.model.specs.Refusals.{refusal, none, refuse_if, first_of, too_many_fr
 use Rattle.model.specs.Refusals.{bounds_refused}
 use Rattle.words.specs.Words.{kind_of, value_in, word_of, mark_of, amount_in, bound_word, bytes_of, words_of}
 use Rattle.wordfile.specs.Form.{figure_kind, harvest_kind, end_kind, least_mark, most_mark, form_of, frames_in}
-use Rattle.wordfile.specs.declared.form.Form.{Form}
-use Rattle.wordfile.specs.declared.form.Form.TheVariants.{Closed, Broken}
+use Rattle.wordfile.specs.Form.{Form, Closed, Broken}
 
 -- ---- reading
 
@@ -99,12 +98,16 @@ read_refusal s h l m = first_of (read_refusals s h l m)
 abbrev pub figure_words : Figures → List ℕ
 figure_words f = word_of figure_kind f.capacity ∷ word_of figure_kind f.start ∷ word_of figure_kind f.end ∷ []
 
+-- a word, unless it is absent
+abbrev pub unless : Bool → ℕ → List ℕ
+unless absent w = pick absent [] (w ∷ [])
+
 -- the words of a frame: its harvest, its least unless that is 0, its most if it has an upper end
 abbrev pub least_words : ℕ → List ℕ
-least_words l = pick (eqb l 0) [] (bound_word least_mark l ∷ [])
+least_words l = unless (eqb l 0) (bound_word least_mark l)
 
 abbrev pub most_words : ℕ → List ℕ
-most_words m = pick (eqb m no_upper_end) [] (bound_word most_mark m ∷ [])
+most_words m = unless (eqb m no_upper_end) (bound_word most_mark m)
 
 abbrev pub words_of_frame : ℕ → Bounds → List ℕ
 words_of_frame h w = word_of harvest_kind h ∷ (least_words w.least ++ most_words w.most)

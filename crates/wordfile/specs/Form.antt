@@ -3,34 +3,19 @@
 use Rattle.std.specs.Prelude.{List, [], ◌∷◌, ℕ, suc, ◌+◌, eqb, ltb}
 use Rattle.model.specs.Choice.{pick}
 use Rattle.words.specs.Words.{kind_of, value_in, mark_of}
+pub use Rattle.words.specs.Words.{figure_kind, harvest_kind, bound_kind, end_kind, least_mark, most_mark}
 use Rattle.wordfile.specs.declared.form.State.{State}
 use Rattle.wordfile.specs.declared.form.Step.{Step}
 use Rattle.wordfile.specs.declared.form.Step.TheVariants.{On, End, Wrong}
-use Rattle.wordfile.specs.declared.form.Form.{Form}
-use Rattle.wordfile.specs.declared.form.Form.TheVariants.{Closed, Broken}
 
--- the kinds of words: a figure, a harvest, a bound, the end word
-abbrev pub figure_kind : ℕ
-figure_kind = 0
-
-abbrev pub harvest_kind : ℕ
-harvest_kind = 1
-
-abbrev pub bound_kind : ℕ
-bound_kind = 2
-
-abbrev pub end_kind : ℕ
-end_kind = 3
-
--- the marks of bounds, their kind with bit 29: a least, a most; and a mark above both
-abbrev pub least_mark : ℕ
-least_mark = 4
-
-abbrev pub most_mark : ℕ
-most_mark = 5
-
+-- a mark above those of a least and a most
 abbrev pub no_mark : ℕ
 no_mark = 6
+
+-- where the form of a file ends: closed after so many words with so many frames, or broken at a word's place
+pub data Form : Type 0 where
+  Closed : ℕ → ℕ → Form
+  Broken : ℕ → Form
 
 -- how many figures come first: capacity, start, end
 abbrev pub figure_count : ℕ
@@ -44,9 +29,12 @@ state figures frames mark = record { figures = figures; frames = frames; mark = 
 abbrev pub opening : State
 opening = state 0 0 no_mark
 
--- what a bound does to it: behind a harvest its least may follow, and then its most
+-- what a bound with mark m does to it: behind a harvest its least may follow, and then its most
+abbrev pub bounded : State → ℕ → Step
+bounded s m = pick (ltb m s.mark) Wrong (On (state s.figures s.frames (m + 1)))
+
 abbrev pub bound_step : State → ℕ → Step
-bound_step s w = pick (ltb (mark_of w) s.mark) Wrong (On (state s.figures s.frames (mark_of w + 1)))
+bound_step s w = bounded s (mark_of w)
 
 -- what a word does to it: figures come first, then the words of each frame; the end word holds the count of frames
 abbrev pub step_of : State → ℕ → Step

@@ -1,32 +1,35 @@
 -- What reading and writing a word file promise, and which files are the writer's.
-use Rattle.std.specs.Prelude.{◌≡◌, true, List, ℕ, ◌≤◌, ◌<◌, length, get_or, take}
+use Rattle.std.specs.Prelude.{◌≡◌, Result, Ok, Err, true, List, ℕ, ◌≤◌, ◌<◌, length, get_or, take}
+use Rattle.model.specs.declared.refusal.Refusal.{Refusal as Given}
+use Rattle.model.specs.declared.refusal.Refusal.TheVariants.{BadWord}
+use Rattle.model.specs.Answer.{said}
 use Rattle.model.specs.Refusals.{Refusal}
 use Rattle.model.specs.Choice.{pick}
 use Rattle.model.specs.Request.{Request, frame_count}
-use Rattle.model.specs.Refusals.{Outcome, gives, refuses, outcome, is_none, none}
+use Rattle.model.specs.Refusals.{gives, outcome, is_none, none}
 use Rattle.model.specs.Lent.{over}
 use Rattle.words.specs.Words.{bytes_of, words_of}
+use Rattle.wordfile.specs.Form.{Form, Closed, Broken}
 use Rattle.wordfile.specs.File.{harvests_in, leasts_in, mosts_in, request_in, read_refusal}
 use Rattle.wordfile.specs.File.{file_bytes, pithy, write_refusal}
 use Rattle.wordfile.specs.declared.reader.Header.{Header}
-use Rattle.wordfile.specs.declared.reader.ReadAnswer.{ReadAnswer}
-use Rattle.wordfile.specs.declared.reader.ReadAnswer.TheVariants as Read
-use Rattle.wordfile.specs.declared.writer.WriteAnswer.{WriteAnswer}
-use Rattle.wordfile.specs.declared.writer.WriteAnswer.TheVariants as Write
+use Rattle.wordfile.specs.declared.reader.Room.{Room}
+use Rattle.wordfile.specs.declared.form.Closed.{Closed as ClosedFile}
 
 -- the figures of a request, and K
 abbrev pub header_of : Request → Header
 header_of r = record { figures = r.figures; frames = frame_count r }
 
--- the reader's answer: a request's figures, or a refusal
-abbrev pub read_said : ReadAnswer → Outcome Header
-read_said (Read.Accepted h) = gives h
-read_said (Read.Refused f) = refuses f
+-- what going over a file answers of its form: how many words and frames, or the word that breaks it
+abbrev pub scanned : Form → Result ClosedFile Given
+scanned (Closed words frames) = Ok record { words = words; frames = frames }
+scanned (Broken p) = Err (BadWord p)
 
--- the writer's answer: the number of bytes written, or a refusal
-abbrev pub write_said : WriteAnswer → Outcome ℕ
-write_said (Write.Written n) = gives n
-write_said (Write.Refused f) = refuses f
+-- the lists lent are the same ones, their values aside
+pub record SameRoom (r r' : Room) : Type 0 where
+  pub harvest : r'.harvest.ghost_name ≡ r.harvest.ghost_name
+  pub least : r'.least.ghost_name ≡ r.least.ghost_name
+  pub most : r'.most.ghost_name ≡ r.most.ghost_name
 
 -- the refusal of reading the file s with lists of harvests, leasts and mosts lent
 abbrev pub read_refused : (s h l m : List ℕ) → Refusal
@@ -37,8 +40,8 @@ abbrev pub filled : Refusal → List ℕ → List ℕ → List ℕ
 filled f found list = pick (is_none f) (over found list) list
 
 -- reading the file s with lists of harvests h, leasts l and mosts m lent, h', l' and m' after it
-pub record ReadSays (s h l m h' l' m' : List ℕ) (r : ReadAnswer) : Type 0 where
-  pub answer : read_said r ≡ outcome (read_refused s h l m) (header_of (request_in s))
+pub record ReadSays (s h l m h' l' m' : List ℕ) (r : Result Header Given) : Type 0 where
+  pub answer : said r ≡ outcome (read_refused s h l m) (header_of (request_in s))
   pub harvest : h' ≡ filled (read_refused s h l m) (harvests_in (words_of s)) h
   pub least : l' ≡ filled (read_refused s h l m) (leasts_in (words_of s)) l
   pub most : m' ≡ filled (read_refused s h l m) (mosts_in (words_of s)) m
@@ -46,12 +49,12 @@ pub record ReadSays (s h l m h' l' m' : List ℕ) (r : ReadAnswer) : Type 0 wher
   pub file : is_none (read_refused s h l m) ≡ true → file_bytes (request_in s) ≡ bytes_of (pithy (words_of s))
 
 -- writing the request q, from lists of l leasts and m mosts, with the byte list o lent, o' after it
-pub record WriteSays (q : Request) (l m : ℕ) (o o' : List ℕ) (r : WriteAnswer) : Type 0 where
-  pub answer : write_said r ≡ outcome (write_refusal q l m (length o)) (length (file_bytes q))
+pub record WriteSays (q : Request) (l m : ℕ) (o o' : List ℕ) (r : Result ℕ Given) : Type 0 where
+  pub answer : said r ≡ outcome (write_refusal q l m (length o)) (length (file_bytes q))
   pub bytes : o' ≡ filled (write_refusal q l m (length o)) (file_bytes q) o
   -- what was written is read back as the request, in any rooms of at least K
   pub reads_back :
-      is_none (write_refusal q l m (length o)) ≡ true → (n x y z : ℕ) → write_said r ≡ gives n → frame_count q ≤ x →
+      is_none (write_refusal q l m (length o)) ≡ true → (n x y z : ℕ) → said r ≡ gives n → frame_count q ≤ x →
       frame_count q ≤ y → frame_count q ≤ z →
       (read_refusal (take n o') x y z ≡ none) × (request_in (take n o') ≡ q)
 

@@ -1,23 +1,18 @@
 // The form of a word file: a machine that goes over the words and says where the file closed and with how many frames.
-ghost use Rattle.std.specs.Prelude.{◌≡◌, ◌<◌, ◌^◌};
+ghost use Rattle.std.specs.Prelude.{◌≡◌, ◌+◌, ◌<◌, ◌^◌};
 ghost use Rattle.words.specs.Words.{words_of};
-ghost use Rattle.wordfile.specs.Form.{bound_step, step_of, form_of};
+ghost use Rattle.words.specs.Spelt.{Fits, spelt};
+ghost use Rattle.wordfile.specs.Form.{bounded, form_of, step_of};
+ghost use Rattle.wordfile.specs.Says.{scanned};
 
-use words::{kind, mark, nth, value};
+use model::Refusal;
+use words::{Word, nth};
 
-// The kinds of words.
-pub const FIGURE: u32 = 0;
+// The marks of bounds: a least, a most; and a mark above both. Numbers, and no enum: what may follow is what has this
+// mark or a greater one, which an enum would need an order and a successor for.
+const LEAST: u32 = 4;
 
-pub const HARVEST: u32 = 1;
-
-const BOUND: u32 = 2;
-
-pub const END: u32 = 3;
-
-// The marks of bounds: a least, a most; and a mark above both.
-pub const LEAST: u32 = 4;
-
-pub const MOST: u32 = 5;
+const MOST: u32 = 5;
 
 const NO_MARK: u32 = 6;
 
@@ -40,87 +35,80 @@ pub enum Step {
     Wrong,
 }
 
-// Where the form ends: closed after so many words with so many frames, or broken at a word's place.
+// How many words a closed file has, and how many frames.
 #[derive(Clone, Copy)]
-pub enum Form {
-    Closed(usize, usize),
-    Broken(usize),
+pub struct Closed {
+    pub words: usize,
+    pub frames: usize,
 }
 
-// What a bound does to the machine.
-fn bound_by(state: State, word: u32) -> Step
-    ensures { result ≡ bound_step state word }
+// What a bound with this mark does to the machine.
+fn bound_by(state: State, mark: u32) -> Step
+    requires { mark < 2 ^ 31 }
+    ensures { result ≡ bounded state mark }
 {
-    let m = mark(word);
-    if m < state.mark {
+    if mark < state.mark {
         return Step::Wrong;
     }
     Step::On(State {
-        figures: state.figures,
-        frames: state.frames,
-        mark: m + 1,
+        mark: mark + 1,
+        ..state
     })
 }
 
 // What a word does to the machine.
-pub fn step_by(state: State, word: u32) -> Step
-    requires { state.frames < 2 ^ 63 }
-    ensures { result ≡ step_of state word }
+fn step_by(state: State, word: Word) -> Step
+    requires frames { state.frames < 2 ^ 63 }
+    requires fits { Fits word }
+    ensures { result ≡ step_of state (spelt word) }
 {
-    let k = kind(word);
     if state.figures < FIGURE_COUNT {
-        if k == FIGURE {
-            return Step::On(State {
+        return match word {
+            Word::Figure(_) => Step::On(State {
                 figures: state.figures + 1,
-                frames: state.frames,
-                mark: state.mark,
-            });
-        }
-        return Step::Wrong;
+                ..state
+            }),
+            _ => Step::Wrong,
+        };
     }
-    if k == HARVEST {
-        return Step::On(State {
-            figures: state.figures,
+    match word {
+        Word::Harvest(_) => Step::On(State {
             frames: state.frames + 1,
             mark: LEAST,
-        });
+            ..state
+        }),
+        Word::Least(_) => bound_by(state, LEAST),
+        Word::Most(_) => bound_by(state, MOST),
+        Word::End(count) if count as usize == state.frames => Step::End,
+        _ => Step::Wrong,
     }
-    if k == BOUND {
-        return bound_by(state, word);
-    }
-    if k == END {
-        if value(word) as usize == state.frames {
-            return Step::End;
-        }
-    }
-    Step::Wrong
 }
 
-// Where the form of a file ends.
-pub fn scan(file: &[u8]) -> Form
-    ensures { result ≡ form_of (words_of file.now) }
+// Where the form of a file ends, or the word that breaks it.
+pub fn scan(file: &[u8]) -> Result<Closed, Refusal>
+    ensures { result ≡ scanned (form_of (words_of file.now)) }
 {
-    let n = file.len() / 4;
     let mut state = State {
         figures: 0,
         frames: 0,
         mark: NO_MARK,
     };
-    let mut i: usize = 0;
-    while i < n {
-        let step = step_by(state, nth(file, i));
-        match step {
+    let n = file.len() / 4;
+    for i in 0..n {
+        match step_by(state, Word::from(nth(file, i))) {
             Step::On(next) => {
                 state = next;
             }
             Step::End => {
-                return Form::Closed(i + 1, state.frames);
+                return Ok(Closed {
+                    words: i + 1,
+                    frames: state.frames,
+                });
             }
             Step::Wrong => {
-                return Form::Broken(i);
+                return Err(Refusal::BadWord(i as u64));
             }
         }
-        i += 1;
     }
-    Form::Broken(i)
+    Err(Refusal::BadWord(n as u64))
 }

@@ -1,152 +1,135 @@
 // Reading a word file: what is refused is known before anything is written.
-ghost use Rattle.std.specs.Prelude.{◌≡◌, ◌+◌, ◌/◌, ◌<◌, ◌≤◌, ◌^◌, drop, length, set};
+ghost use Rattle.std.specs.Prelude.{◌≡◌, ◌+◌, ◌/◌, ◌<◌, ◌≤◌, drop, length, set, get_or};
+ghost use Rattle.model.specs.Answer.{refused};
 ghost use Rattle.model.specs.Lent.{over};
+ghost use Rattle.model.specs.Limits.{no_upper_end};
 ghost use Rattle.model.specs.Refusals.{first_of};
-ghost use Rattle.words.specs.Words.{words_of};
-ghost use Rattle.wordfile.specs.Form.{figure_count, place_in};
-ghost use Rattle.wordfile.specs.File.{bound_at, past_least, harvest_at, least_at, most_at};
+ghost use Rattle.words.specs.Words.{value_in, words_of, least_mark, most_mark};
+ghost use Rattle.wordfile.specs.Form.{figure_count};
+ghost use Rattle.wordfile.specs.File.{bound_at, past_least, harvest_at, least_at, most_at, says_at};
 ghost use Rattle.wordfile.specs.File.{figures_in, harvests_in, leasts_in, mosts_in};
-ghost use Rattle.wordfile.specs.File.{form_refusals, read_refusal, room_refusals, says_at};
-ghost use Rattle.wordfile.specs.Says.{ReadSays};
+ghost use Rattle.wordfile.specs.File.{read_refusal, room_refusals};
+ghost use Rattle.wordfile.specs.Says.{ReadSays, SameRoom};
 
-use crate::form::{END, Form, HARVEST, LEAST, MOST, scan};
+use crate::form::scan;
+use crate::frame::Frame;
 use model::limits::{MAX_FILE_BYTES, MAX_FRAMES, NO_UPPER_END};
 use model::{Figures, Refusal};
-use request::{first_of, is_none, refuse_if};
-use words::{amount, kind, mark, nth, value};
+use request::check_that;
+use words::{Word, get, nth, rest};
 
 // The figures of a request, and the number of its frames.
 #[repr(C)]
-#[derive(Clone, Copy)]
+#[derive(Clone, Copy, Default)]
 pub struct Header {
     pub figures: Figures,
     pub frames: usize,
 }
 
-// What reading a file answers.
-#[derive(Clone, Copy)]
-pub enum ReadAnswer {
-    Accepted(Header),
-    Refused(Refusal),
+// Lists lent for the harvests, leasts and mosts of a file.
+#[derive(Drop)]
+pub struct Room<'a> {
+    pub harvest: &'a mut [u32],
+    pub least: &'a mut [u32],
+    pub most: &'a mut [u32],
 }
 
-// What is refused of so many frames, read into lists of these rooms.
-fn room_refusal(frames: usize, harvest: usize, least: usize, most: usize) -> Refusal
-    ensures { result ≡ first_of (room_refusals frames harvest least most) }
+// Whether so many frames are few enough, and each list has room for them.
+fn check_room(frames: usize, room: &Room) -> Result<(), Refusal>
+    ensures { refused result ≡ first_of (room_refusals frames (length room.now.harvest.now) (length
+        room.now.least.now) (length room.now.most.now)) }
 {
-    let many = refuse_if(frames > MAX_FRAMES, 2);
-    let harvests = refuse_if(harvest < frames, 7);
-    let leasts = refuse_if(least < frames, 7);
-    let mosts = refuse_if(most < frames, 7);
-    first_of(many, first_of(harvests, first_of(leasts, mosts)))
-}
-
-// What is refused of a file of this form with so many bytes, read into lists of these rooms.
-fn form_refusal(form: Form, bytes: usize, harvest: usize, least: usize, most: usize) -> Refusal
-    requires { place_in form < 2 ^ 61 }
-    ensures { result ≡ first_of (form_refusals form bytes harvest least most) }
-{
-    match form {
-        Form::Closed(words, frames) => {
-            if 4 * words < bytes {
-                return Refusal {
-                    number: 8,
-                    p: words as u64,
-                };
-            }
-            room_refusal(frames, harvest, least, most)
-        }
-        Form::Broken(place) => Refusal {
-            number: 8,
-            p: place as u64,
-        },
-    }
+    check_that(frames <= MAX_FRAMES, Refusal::TooManyFrames)?;
+    check_that(frames <= room.harvest.len(), Refusal::WrongLength)?;
+    check_that(frames <= room.least.len(), Refusal::WrongLength)?;
+    check_that(frames <= room.most.len(), Refusal::WrongLength)
 }
 
 // What is refused of a file; one that is too long is not gone over.
-fn read_refusal(file: &[u8], harvest: usize, least: usize, most: usize) -> Refusal
-    ensures { result ≡ read_refusal file.now harvest least most }
+fn check_read(file: &[u8], room: &Room) -> Result<(), Refusal>
+    ensures { refused result ≡ read_refusal file.now (length room.now.harvest.now) (length room.now.least.now) (length
+        room.now.most.now) }
 {
-    if file.len() > MAX_FILE_BYTES {
-        return Refusal { number: 2, p: 0 };
-    }
-    form_refusal(scan(file), file.len(), harvest, least, most)
+    check_that(file.len() <= MAX_FILE_BYTES, Refusal::TooManyFrames)?;
+    let closed = scan(file)?;
+    check_that(
+        file.len() <= 4 * closed.words,
+        Refusal::BadWord(closed.words as u64),
+    )?;
+    check_room(closed.frames, room)
 }
 
-// The amount of the bound of this mark at word i of a file, or else what stands for an absent one.
-fn bound_at(file: &[u8], i: usize, wanted: u32, absent: u32) -> u32
-    ensures { result ≡ bound_at wanted absent (drop i (words_of file.now)) }
+// The value of word i of a file.
+fn value_at(file: &[u8], i: usize) -> u32
+    requires { i < length file.now / 4 }
+    ensures { result ≡ value_in (get_or (words_of file.now) i 0) }
 {
-    if i >= file.len() / 4 {
-        return absent;
-    }
-    let word = nth(file, i);
-    if mark(word) == wanted {
-        return amount(word);
-    }
-    absent
+    rest::<30>(nth(file, i))
 }
 
-// The place behind a least at word i of a file, or i where there is none.
-fn past_least(file: &[u8], i: usize) -> usize
-    ensures { drop result (words_of file.now) ≡ past_least (drop i (words_of file.now)) }
+// The least at word i of a file, 0 where there is none, and the place behind it.
+#[tactic(auto, using(words::proofs::Bytes::words_length))]
+fn least_at(file: &[u8], i: usize) -> (u32, usize)
+    ensures least { result.0 ≡ bound_at least_mark 0 (drop i (words_of file.now)) }
+    ensures behind { drop result.1 (words_of file.now) ≡ past_least (drop i (words_of file.now)) }
 {
-    if i >= file.len() / 4 {
-        return i;
+    match get(file, i) {
+        Some(Word::Least(least)) => (least, i + 1),
+        _ => (0, i),
     }
-    if mark(nth(file, i)) == LEAST {
-        return i + 1;
-    }
-    i
 }
 
-// Puts what the frame with harvest word i says at this index of the lent lists.
-fn fill_frame(
-    file: &[u8],
-    i: usize,
-    at: usize,
-    harvest: &mut [u32],
-    least: &mut [u32],
-    most: &mut [u32],
-)
-    requires i_in_bounds { i < length file.now / 4 }
-    requires at_in_bounds { (at < length harvest.old) × (at < length least.old) × (at < length most.old) }
-    ensures harvest { harvest.new ≡ set harvest.old at
-        (says_at harvest_at (words_of file.now) i) }
-    ensures least { least.new ≡ set least.old at
-        (says_at least_at (words_of file.now) i) }
-    ensures most { most.new ≡ set most.old at
-        (says_at most_at (words_of file.now) i) }
+// The most at word i of a file, no upper end where there is none.
+fn most_at(file: &[u8], i: usize) -> u32
+    ensures { result ≡ bound_at most_mark no_upper_end (drop i (words_of file.now)) }
 {
-    harvest[at] = value(nth(file, i));
-    least[at] = bound_at(file, i + 1, LEAST, 0);
-    most[at] = bound_at(file, past_least(file, i + 1), MOST, NO_UPPER_END);
+    match get(file, i) {
+        Some(Word::Most(most)) => most,
+        _ => NO_UPPER_END,
+    }
+}
+
+// The frame with harvest word i of a file.
+fn frame_at(file: &[u8], i: usize) -> Frame
+    requires { i < length file.now / 4 }
+    ensures harvest { result.harvest ≡ says_at harvest_at (words_of file.now) i }
+    ensures least { result.least ≡ says_at least_at (words_of file.now) i }
+    ensures most { result.most ≡ says_at most_at (words_of file.now) i }
+{
+    let (least, behind) = least_at(file, i + 1);
+    Frame {
+        harvest: value_at(file, i),
+        least: least,
+        most: most_at(file, behind),
+    }
 }
 
 // Puts the harvests, leasts and mosts of a file at the front of the lent lists, and answers how many frames they are.
-fn fill(file: &[u8], harvest: &mut [u32], least: &mut [u32], most: &mut [u32]) -> usize
-    requires harvests_fit { length (harvests_in (words_of file.now)) ≤ length harvest.old }
-    requires leasts_fit { length (leasts_in (words_of file.now)) ≤ length least.old }
-    requires mosts_fit { length (mosts_in (words_of file.now)) ≤ length most.old }
-    ensures harvest { harvest.new ≡ over (harvests_in (words_of file.now))
-        harvest.old }
-    ensures least { least.new ≡ over (leasts_in (words_of file.now)) least.old }
-    ensures most { most.new ≡ over (mosts_in (words_of file.now)) most.old }
+fn fill(file: &[u8], room: &mut Room) -> usize
+    requires harvests_fit { length (harvests_in (words_of file.now)) ≤ length room.old.harvest.now }
+    requires leasts_fit { length (leasts_in (words_of file.now)) ≤ length room.old.least.now }
+    requires mosts_fit { length (mosts_in (words_of file.now)) ≤ length room.old.most.now }
+    ensures harvest { room.new.harvest.now ≡ over (harvests_in (words_of file.now)) room.old.harvest.now }
+    ensures least { room.new.least.now ≡ over (leasts_in (words_of file.now)) room.old.least.now }
+    ensures most { room.new.most.now ≡ over (mosts_in (words_of file.now)) room.old.most.now }
+    ensures same { SameRoom room.old room.new }
     ensures count { result ≡ length (harvests_in (words_of file.now)) }
 {
-    let n = file.len() / 4;
     let mut frames: usize = 0;
-    let mut i: usize = 0;
-    while i < n {
-        let k = kind(nth(file, i));
-        if k == END {
-            return frames;
+    for i in 0..file.len() / 4 {
+        match Word::from(nth(file, i)) {
+            Word::End(_) => {
+                return frames;
+            }
+            Word::Harvest(_) => {
+                let frame = frame_at(file, i);
+                room.harvest[frames] = frame.harvest;
+                room.least[frames] = frame.least;
+                room.most[frames] = frame.most;
+                frames += 1;
+            }
+            _ => {}
         }
-        if k == HARVEST {
-            fill_frame(file, i, frames, harvest, least, most);
-            frames += 1;
-        }
-        i += 1;
     }
     frames
 }
@@ -157,23 +140,29 @@ fn figures_in(file: &[u8]) -> Figures
     ensures { result ≡ figures_in (words_of file.now) }
 {
     Figures {
-        capacity: value(nth(file, 0)),
-        start: value(nth(file, 1)),
-        end: value(nth(file, 2)),
+        capacity: value_at(file, 0),
+        start: value_at(file, 1),
+        end: value_at(file, 2),
     }
 }
 
 // Reads a file: harvests, leasts and mosts go to the front of the lent lists, the other figures into the answer.
-pub fn read(file: &[u8], harvest: &mut [u32], least: &mut [u32], most: &mut [u32]) -> ReadAnswer
-    ensures { ReadSays file.now harvest.old least.old most.old
-        harvest.new least.new most.new result }
+pub fn read(
+    file: &[u8],
+    harvest: &mut [u32],
+    least: &mut [u32],
+    most: &mut [u32],
+) -> Result<Header, Refusal>
+    ensures { ReadSays file.now harvest.old least.old most.old harvest.new least.new most.new result }
 {
-    let refusal = read_refusal(file, harvest.len(), least.len(), most.len());
-    if !is_none(refusal) {
-        return ReadAnswer::Refused(refusal);
-    }
-    let frames = fill(file, harvest, least, most);
-    ReadAnswer::Accepted(Header {
+    let mut room = Room {
+        harvest: harvest,
+        least: least,
+        most: most,
+    };
+    check_read(file, &room)?;
+    let frames = fill(file, &mut room);
+    Ok(Header {
         figures: figures_in(file),
         frames: frames,
     })

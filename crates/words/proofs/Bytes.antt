@@ -7,7 +7,8 @@ use lib.ListN.{length, get_or, drop, length-append}
 use lib.Seq.{get_or-drop}
 use Rattle.model.specs.Lent.{over_at}
 use Rattle.words.specs.Words.{word_bytes, bytes_of, four_bytes, word_at, words_from, words_of}
-use Rattle.words.specs.Puts.{Puts}
+use Rattle.words.specs.Puts.{Puts, Wrote}
+use Rattle.words.specs.declared.writer.Writer.{Writer}
 use Rattle.words.proofs.Lists.{write_on, write_nothing, write_length}
 
 -- ---- the words in a list of bytes
@@ -117,3 +118,9 @@ module _ {vs o o' : List ℕ} {at m : ℕ} (p : Puts vs at o o' m) (l : at + len
   -- putting words keeps the length
   pub puts_length : length o' ≡ length o
   puts_length = ap length p.list ∙ write_length (bytes_of vs) o at l
+
+-- a writer that puts words, and then words behind them
+pub wrote_more :
+    {vs ws : List ℕ} {a b c : Writer} → Wrote vs a b → a.at + length (bytes_of vs) ≤ length a.out.now → Wrote ws b c →
+    Wrote (vs ++ ws) a c
+wrote_more p l q = record { puts = puts_more p.puts l q.puts; same = q.same ∙ p.same }
