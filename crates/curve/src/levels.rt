@@ -31,6 +31,11 @@ fn passed(frames: Frames, k: usize) -> Passed
     }
 }
 
+// A level above all that there is to draw.
+fn roof_of(frames: Frames) -> u64 {
+    frames.rule.energy + 1
+}
+
 // Draws the curve from behind, and writes for each frame the last level at which the reserve before it is 0, and the last
 // at which it is not full. Says whether the allowance sufficed.
 fn draw_curve(
@@ -44,7 +49,7 @@ fn draw_curve(
         (frame_count frames ≤ length lows.old) × (frame_count frames ≤ length highs.old) }
 {
     let count = frames.count();
-    let roof = frames.rule.energy + 1;
+    let roof = roof_of(frames);
     let last = passed(frames, count - 1);
     let mut curve = Curve::at_end(
         frames.rule.end,
@@ -59,7 +64,7 @@ fn draw_curve(
             highs[k] = lows[k];
             curve.vanish();
         } else {
-            highs[k] = low_bits(curve.last);
+            highs[k] = low_bits(curve.high.level);
         }
     }
     if curve.full != 0 {
@@ -95,7 +100,7 @@ pub fn curve_levels(
     }
     let is_drawn = draw_curve(frames, start, levels, highs, knots);
     if is_drawn {
-        let roof = low_bits((frames.rule.energy + 1).min(u32::MAX as u64));
+        let roof = u32::try_from(roof_of(frames)).unwrap_or(u32::MAX);
         choose(roof, &mut levels[..count], &highs[..count]);
     }
     is_drawn

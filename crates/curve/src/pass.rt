@@ -1,7 +1,7 @@
 // The curve from behind a frame to before it.
 ghost use Rattle.std.specs.Prelude.{◌≤◌};
 
-use super::curve::Curve;
+use super::curve::{Curve, End};
 use super::knots::Knot;
 
 // A frame that the curve passes: what it has even after an empty store, and at most that a store of its capacity brings it
@@ -28,15 +28,6 @@ impl Passed {
     }
 }
 
-// An end of the curve in a frame: what is needed at that level, by how much it grows there, and the knot that the frame
-// brings.
-#[derive(Clone, Copy)]
-struct End {
-    need: u64,
-    step: u32,
-    knot: Option<Knot>,
-}
-
 impl<'a> Curve<'a> {
     // Counts it from the first level on at which a frame needs more than it has, with nothing behind it.
     fn widen_down(&mut self, f: Passed) {
@@ -45,7 +36,7 @@ impl<'a> Curve<'a> {
         } else {
             1
         };
-        if from < self.from && f.has < f.taken(f.most) {
+        if from < self.low.level && f.has < f.taken(f.most) {
             self.widen_low(from);
         }
     }
@@ -61,14 +52,14 @@ impl<'a> Curve<'a> {
         } else {
             self.roof
         };
-        if self.last < last && f.taken(f.least) < free {
+        if self.high.level < last && f.taken(f.least) < free {
             self.widen_high(last);
         }
     }
 
     // The knot at which a frame's draw begins to grow, if it grows, and not above the last level only.
     fn knot_at_least(&self, f: Passed) -> Option<Knot> {
-        if f.least < f.most && f.least <= self.last {
+        if f.least < f.most && f.least <= self.high.level {
             Some(Knot::at(f.least, 1))
         } else {
             None
@@ -77,69 +68,45 @@ impl<'a> Curve<'a> {
 
     // The knot at which a frame's draw stops growing, if it grows, and not below the first level only.
     fn knot_at_most(&self, f: Passed) -> Option<Knot> {
-        if f.least < f.most && self.from <= f.most {
+        if f.least < f.most && self.low.level <= f.most {
             Some(Knot::at(f.most, u32::MAX))
         } else {
             None
         }
     }
 
-    // The first level with what a frame draws there.
-    fn low_end(&self, f: Passed) -> End {
-        if self.from <= f.least {
-            End {
-                need: self.low.wrapping_add(f.taken(f.least)),
-                step: self.low_step,
-                knot: self.knot_at_least(f),
-            }
-        } else if self.from <= f.most {
-            End {
-                need: self.low.wrapping_add(f.taken(self.from)),
-                step: self.low_step.wrapping_add(1),
-                knot: None,
-            }
+    // The low end with what a frame draws there, and the knot that the frame brings.
+    fn drawn_low(&self, f: Passed) -> (End, Option<Knot>) {
+        let level = self.low.level;
+        if level <= f.least {
+            (self.low.with(f.taken(f.least), 0), self.knot_at_least(f))
+        } else if level <= f.most {
+            (self.low.with(f.taken(level), 1), None)
         } else {
-            End {
-                need: self.low.wrapping_add(f.taken(f.most)),
-                step: self.low_step,
-                knot: None,
-            }
+            (self.low.with(f.taken(f.most), 0), None)
         }
     }
 
-    // The last level with what a frame draws there.
-    fn high_end(&self, f: Passed) -> End {
-        if f.most <= self.last {
-            End {
-                need: self.high.wrapping_add(f.taken(f.most)),
-                step: self.high_step,
-                knot: self.knot_at_most(f),
-            }
-        } else if f.least <= self.last {
-            End {
-                need: self.high.wrapping_add(f.taken(self.last)),
-                step: self.high_step.wrapping_add(1),
-                knot: None,
-            }
+    // The high end with what a frame draws there, and the knot that the frame brings.
+    fn drawn_high(&self, f: Passed) -> (End, Option<Knot>) {
+        let level = self.high.level;
+        if f.most <= level {
+            (self.high.with(f.taken(f.most), 0), self.knot_at_most(f))
+        } else if f.least <= level {
+            (self.high.with(f.taken(level), 1), None)
         } else {
-            End {
-                need: self.high.wrapping_add(f.taken(f.least)),
-                step: self.high_step,
-                knot: None,
-            }
+            (self.high.with(f.taken(f.least), 0), None)
         }
     }
 
     // Makes it the needs of a frame: with what that draws at each level.
     fn draw(&mut self, f: Passed) {
-        let low = self.low_end(f);
-        let high = self.high_end(f);
-        self.low = low.need;
-        self.low_step = low.step;
-        self.high = high.need;
-        self.high_step = high.step;
+        let (low, low_knot) = self.drawn_low(f);
+        let (high, high_knot) = self.drawn_high(f);
+        self.low = low;
+        self.high = high;
         // One call for both, so that a compiler puts it into the pass.
-        for knot in [low.knot, high.knot] {
+        for knot in [low_knot, high_knot] {
             if let Some(knot) = knot {
                 self.knots.insert(knot);
             }
@@ -148,10 +115,10 @@ impl<'a> Curve<'a> {
 
     // Leaves nothing above what a full store needs, of what is needed beyond what the frame has.
     fn cut_high(&mut self, f: Passed) {
-        if f.ceiling <= self.high {
-            self.narrow_high(self.high - f.ceiling, f.gap());
+        if f.ceiling <= self.high.height {
+            self.narrow_high(self.high.height - f.ceiling, f.gap());
         } else {
-            self.high = self.high.wrapping_sub(f.has);
+            self.high.height = self.high.height.wrapping_sub(f.has);
         }
     }
 
@@ -165,10 +132,10 @@ impl<'a> Curve<'a> {
 
     // Takes so much off its first level, and leaves nothing below 0.
     fn spend(&mut self, has: u64) {
-        if self.low <= has {
-            self.narrow_low(has - self.low);
+        if self.low.height <= has {
+            self.narrow_low(has - self.low.height);
         } else {
-            self.low -= has;
+            self.low.height -= has;
         }
     }
 
@@ -185,8 +152,8 @@ impl<'a> Curve<'a> {
 
     // Takes off what the first frame, before which it is, has besides.
     pub fn start_with(&mut self, start: u64) {
-        if !self.is_empty() && self.low <= start {
-            self.narrow_low(start - self.low);
+        if !self.is_empty() && self.low.height <= start {
+            self.narrow_low(start - self.low.height);
         }
     }
 }
