@@ -7,12 +7,9 @@
 // harvest rises all the time, turns come soon after the apex and are found late. So there is an allowance of frames
 // to look at: as many as there are, and more with every frame drawn; a turn costs too. Where it is used up, the
 // funnel draws the rest.
-ghost use Rattle.std.specs.Prelude.{◌≡◌, length};
-
-use super::slope::{Slope, steeper};
-use certifier::{Rule, inflow_at};
-use numbers::{TOP, fill, less, minus, over, plus, times, within};
-use std::num::wrapping_add_usize;
+use super::apex::{Apex, Point, Side};
+use super::slope::Slope;
+use certifier::Rule;
 
 // How many more frames may be looked at for each frame drawn, and what a turn costs in frames: what was fastest over
 // the benchmark's families.
@@ -20,224 +17,165 @@ const GAIN: u64 = 3;
 
 const TURN: u64 = 16;
 
-// The last turn of the string that is sure: before which frame, its height as the upper curve counts and as the lower
-// one does, and what came in before it. The frames before it have their levels.
+// A bound of the sight: the straight way from the apex to a point of a side's curve, how far that curve is off this
+// line now, and how far it is where the line meets the other curve; both times the run.
 #[derive(Clone, Copy)]
-pub struct Apex {
-    pub frame: usize,
-    pub above: u64,
-    pub below: u64,
-    pub height: u64,
+struct Bound {
+    side: Side,
+    capacity: u64,
+    from: Point,
+    way: Slope,
+    off: u64,
+    most: u64,
 }
 
-// A bound of the sight: the way from the apex to a point of a curve, how far that curve is off the line now, and how
-// far it is where the line meets the other curve; both times the run.
+// The next turn: the way to it, at which side's curve it is, and how many frames were looked at.
 #[derive(Clone, Copy)]
-pub struct Bound {
-    pub rise: u64,
-    pub run: u64,
-    pub off: u64,
-    pub most: u64,
+struct Turn {
+    side: Side,
+    way: Slope,
+    looked: u64,
 }
 
-// The next turn: the way to it, of no frame where it is not in sight, whether it is a point of the upper curve, and
-// how many frames were looked at.
-#[derive(Clone, Copy)]
-pub struct Turn {
-    pub rise: u64,
-    pub run: u64,
-    pub upper: bool,
-    pub looked: u64,
-}
+impl Bound {
+    // The bound where nothing is seen yet: no way is steeper than the upper one, none flatter than the lower one.
+    fn open(side: Side, capacity: u64, apex: Apex) -> Bound {
+        let (rise, off) = match side {
+            Side::Upper => (u64::from(u32::MAX), apex.height.wrapping_sub(apex.above)),
+            Side::Lower => (0, apex.below.wrapping_sub(apex.height)),
+        };
+        Bound {
+            side,
+            capacity,
+            from: apex.on(side),
+            way: Slope { rise, run: 1 },
+            off,
+            most: capacity,
+        }
+    }
 
-// The string's start.
-pub fn first_apex(capacity: u64, start: u64) -> Apex {
-    Apex {
-        frame: 0,
-        above: 0,
-        below: capacity,
-        height: start,
+    // The bound after one frame more: to the point reached, if that is not beyond the line.
+    fn after(self, inflow: u64, here: Point) -> Bound {
+        let risen = inflow.wrapping_mul(self.way.run);
+        let (away, nearer) = match self.side {
+            Side::Upper => (risen, self.way.rise),
+            Side::Lower => (self.way.rise, risen),
+        };
+        let off = self.off.wrapping_add(away);
+        if off <= nearer {
+            let way = self.from.way_to(here);
+            return Bound {
+                way,
+                off: 0,
+                most: self.capacity.wrapping_mul(way.run),
+                ..self
+            };
+        }
+        Bound {
+            off: off - nearer,
+            ..self
+        }
+    }
+
+    // Whether the other curve crosses the line.
+    fn is_crossed(self) -> bool {
+        self.most < self.off
+    }
+
+    // The turn at the bound's point, found here.
+    fn turn(self, here: Point) -> Turn {
+        Turn {
+            side: self.side,
+            way: self.way,
+            looked: self.from.way_to(here).run,
+        }
     }
 }
 
-// The bound of the upper curve where nothing is seen yet: no way is steeper.
-fn upright(capacity: u64, apex: Apex) -> Bound {
-    Bound {
-        rise: TOP,
-        run: 1,
-        off: minus(apex.height, apex.above),
-        most: capacity,
-    }
-}
-
-// The bound of the lower curve where nothing is seen yet: no way is flatter.
-fn flat(capacity: u64, apex: Apex) -> Bound {
-    Bound {
-        rise: 0,
-        run: 1,
-        off: minus(apex.below, apex.height),
-        most: capacity,
-    }
-}
-
-// The bound at a point that is reached now.
-fn bound_here(capacity: u64, rise: u64, run: u64) -> Bound {
-    Bound {
-        rise: rise,
-        run: run,
-        off: 0,
-        most: times(capacity, run),
-    }
-}
-
-// The flattest way to an upper point after one frame more: to the point reached, if that is not above the line.
-fn flattest(capacity: u64, high: Bound, inflow: u64, rise: u64, run: u64) -> Bound {
-    let mut b = high;
-    let off = plus(b.off, times(inflow, b.run));
-    if off <= b.rise {
-        return bound_here(capacity, rise, run);
-    }
-    b.off = minus(off, b.rise);
-    b
-}
-
-// The steepest way to a lower point after one frame more: to the point reached, if that is not below the line.
-fn steepest(capacity: u64, low: Bound, inflow: u64, rise: u64, run: u64) -> Bound {
-    let mut b = low;
-    let off = plus(b.off, b.rise);
-    let gone = times(inflow, b.run);
-    if off <= gone {
-        return bound_here(capacity, rise, run);
-    }
-    b.off = minus(off, gone);
-    b
-}
-
-// The turn at the upper curve's bound.
-fn upper_turn(high: Bound, looked: u64) -> Turn {
-    Turn {
-        rise: high.rise,
-        run: high.run,
-        upper: true,
-        looked: looked,
-    }
-}
-
-// The turn at the lower curve's bound.
-fn lower_turn(low: Bound, looked: u64) -> Turn {
-    Turn {
-        rise: low.rise,
-        run: low.run,
-        upper: false,
-        looked: looked,
-    }
-}
-
-// The way to a bound's point.
-fn way_to(b: Bound) -> Slope {
-    Slope {
-        rise: b.rise,
-        run: b.run,
+impl Turn {
+    // The apex moved to the turn.
+    fn moves(self, capacity: u64, apex: Apex) -> Apex {
+        let from = apex.on(self.side);
+        let point = Point {
+            frame: from.frame.wrapping_add(self.way.run as usize),
+            height: from.height.wrapping_add(self.way.rise),
+        };
+        Apex::turned(self.side, point, capacity)
     }
 }
 
 // The turn where all frames are seen: the string's end, which is a point of the lower curve here, if the bounds let
-// it through.
-fn last_turn(high: Bound, low: Bound, goal: Slope) -> Turn {
-    if steeper(way_to(low), goal) {
-        return lower_turn(low, goal.run);
+// the way to it through.
+fn last_turn(high: Bound, low: Bound, here: Point, goal: Slope) -> Turn {
+    if low.way.is_steeper(goal) {
+        return low.turn(here);
     }
-    if steeper(goal, way_to(high)) {
-        return upper_turn(high, goal.run);
+    if goal.is_steeper(high.way) {
+        return high.turn(here);
     }
     Turn {
-        rise: goal.rise,
-        run: goal.run,
-        upper: false,
+        side: Side::Lower,
+        way: goal,
         looked: goal.run,
     }
 }
 
-// No turn in sight.
-fn no_turn() -> Turn {
-    Turn {
-        rise: 0,
-        run: 0,
-        upper: false,
-        looked: 0,
-    }
-}
-
-// The turn after the apex, if it is found among so many frames.
-fn next_turn(rule: Rule, harvest: &[u32], apex: Apex, left: u64) -> Turn {
-    let capacity = rule.capacity;
-    let last = within(wrapping_add_usize(apex.frame, left as usize), harvest.len());
-    let mut high = upright(capacity, apex);
-    let mut low = flat(capacity, apex);
-    let mut height = apex.height;
-    let mut run = 0;
-    let mut k = apex.frame;
-    while k < last {
-        let inflow = inflow_at(harvest, k);
-        height = plus(height, inflow);
-        run = plus(run, 1);
-        high = flattest(capacity, high, inflow, minus(height, apex.above), run);
-        if high.most < high.off {
-            return upper_turn(high, run);
-        }
-        low = steepest(capacity, low, inflow, minus(height, apex.below), run);
-        if low.most < low.off {
-            return lower_turn(low, run);
-        }
-        k += 1;
-    }
-    if last < harvest.len() {
-        return no_turn();
-    }
-    let end = less(plus(height, capacity), rule.end);
-    let goal = Slope {
-        rise: less(end, apex.below),
-        run: run,
+// The turn after the apex, if it is found among so many of the frames ahead.
+fn next_turn(rule: Rule, ahead: &[u32], apex: Apex, left: u64) -> Option<Turn> {
+    let count = ahead.len().min(left as usize);
+    let mut high = Bound::open(Side::Upper, rule.capacity, apex);
+    let mut low = Bound::open(Side::Lower, rule.capacity, apex);
+    let mut here = Point {
+        frame: apex.frame,
+        height: apex.height,
     };
-    last_turn(high, low, goal)
-}
-
-// The apex moved to the turn.
-fn moved(capacity: u64, apex: Apex, turn: Turn) -> Apex {
-    let frame = wrapping_add_usize(apex.frame, turn.run as usize);
-    if turn.upper {
-        let height = plus(apex.above, turn.rise);
-        return Apex {
-            frame: frame,
-            above: height,
-            below: plus(height, capacity),
-            height: height,
-        };
+    for inflow in &ahead[..count] {
+        let inflow = u64::from(*inflow);
+        here.frame = here.frame.wrapping_add(1);
+        here.height = here.height.wrapping_add(inflow);
+        high = high.after(inflow, here);
+        if high.is_crossed() {
+            return Some(high.turn(here));
+        }
+        low = low.after(inflow, here);
+        if low.is_crossed() {
+            return Some(low.turn(here));
+        }
     }
-    let height = plus(apex.below, turn.rise);
-    Apex {
-        frame: frame,
-        above: less(height, capacity),
-        below: height,
-        height: height,
+    if count < ahead.len() {
+        return None;
     }
+    let end = here
+        .height
+        .wrapping_add(rule.capacity)
+        .saturating_sub(rule.end);
+    let goal = Slope {
+        rise: end.saturating_sub(apex.below),
+        run: count as u64,
+    };
+    Some(last_turn(high, low, here, goal))
 }
 
 // Draws the string from turn to turn, to its end or until the allowance is used up. Gives the apex that was reached.
-pub fn draw_by_sight(rule: Rule, harvest: &[u32], first: Apex, levels: &mut [u32]) -> Apex
-    ensures { length levels.new ≡ length levels.old }
-{
-    let count = harvest.len();
+pub fn draw_by_sight(rule: Rule, harvest: &[u32], first: Apex, levels: &mut [u32]) -> Apex {
     let mut apex = first;
-    let mut left = count as u64;
-    while apex.frame < count {
-        let turn = next_turn(rule, harvest, apex, left);
-        let next = moved(rule.capacity, apex, turn);
+    let mut left = harvest.len() as u64;
+    // No iterator counts here: the turn that is found says at which frame to look on.
+    while apex.frame < harvest.len() {
+        let Some(turn) = next_turn(rule, &harvest[apex.frame..], apex, left) else {
+            return apex;
+        };
+        let next = turn.moves(rule.capacity, apex);
+        // A turn that leads no further would be found again.
         if next.frame <= apex.frame {
             return apex;
         }
-        fill(levels, apex.frame, next.frame, over(turn.rise, turn.run));
-        left = less(plus(left, times(GAIN, turn.run)), plus(TURN, turn.looked));
+        if let Some(passed) = levels.get_mut(apex.frame..next.frame) {
+            passed.fill(turn.way.level());
+        }
+        left = left
+            .wrapping_add(GAIN.wrapping_mul(turn.way.run))
+            .saturating_sub(TURN.wrapping_add(turn.looked));
         apex = next;
     }
     apex

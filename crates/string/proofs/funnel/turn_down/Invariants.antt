@@ -1,9 +1,0 @@
--- The lower chain grows shorter with every turn, and drawing keeps the list's length.
-use Rattle.std.proofs.Common.{◌≡◌, ◌-◌, length}
-use Rattle.string.proofs.funnel.turn_down.Given as goal
-
-abbrev pub invariant-loop-f : goal.invariant-loop-f
-invariant-loop-f l = length l.levels ≡ length l.initial.levels
-
-abbrev pub decreases-loop-f : goal.decreases-loop-f
-decreases-loop-f l = l.f.lower_end - l.f.lower_first
