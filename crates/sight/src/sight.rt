@@ -157,6 +157,7 @@ fn next_turn(rule: Rule, ahead: &[u32], apex: Apex, left: u64) -> Option<Turn> {
 }
 
 // Draws the string from turn to turn, to its end or until the allowance is used up. Gives the apex that was reached.
+// Rule and harvest stay apart: crate certifier's `Frames` has leasts and mosts too, and asks that they can be read.
 pub fn draw_by_sight(rule: Rule, harvest: &[u32], first: Apex, levels: &mut [u32]) -> Apex {
     let mut apex = first;
     let mut left = harvest.len() as u64;

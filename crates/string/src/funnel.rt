@@ -3,9 +3,9 @@
 // slopes cross, the apex moves along the other chain. Every point enters one chain once and leaves it once, so a
 // frame costs a constant number of steps, and nothing is searched.
 //
-// Points are frame numbers: point k is the turn before frame k. What came in before frame k stands in `levels[k]`
-// until the string has passed it; the lower curve is the same list less the capacity, so the apex has a height for
-// each chain.
+// Points are frame numbers, since the memory is fixed: point k is the turn before frame k. What came in before frame k
+// stands in `levels[k]` until the string has passed it; the lower curve is the same list less the capacity, so the apex
+// has a height for each chain.
 use super::chain::{Chain, Drawn};
 use certifier::Rule;
 use sight::{Point, Side};
@@ -18,7 +18,8 @@ pub struct Funnel<'a> {
     pub lower: Chain<'a>,
 }
 
-// One more point on a chain; where the chain has no other, the string may turn at the other side's first.
+// One more point on a chain; where the chain has no other, the string may turn at the other side's first. Inlined, as
+// the chain's methods.
 #[inline(always)]
 fn add(drawn: &mut Drawn, own: &mut Chain, other: &mut Chain, point: Point) {
     own.tighten(drawn, point);

@@ -16,8 +16,9 @@ fn inflows(harvest: &[u32], levels: &mut [u32]) {
     }
 }
 
-// Writes the slopes of the taut string, rounded down, as levels. Rule, harvest and start stay apart: a string has no
-// bounds, and crate certifier's frames would ask their callers for some. The lists are lent, since there is no heap.
+// Writes the slopes of the taut string, rounded down, as levels. Rule, harvest and start stay apart: crate certifier's
+// `Frames` has leasts and mosts too and asks that they can be read, which would ask more of callers than a string
+// needs. The lists are lent, since there is no heap.
 pub fn string_levels(
     rule: Rule,
     harvest: &[u32],
