@@ -14,7 +14,8 @@ pub struct Needs {
 }
 
 // Frames from..to that have the same bounds on their levels, the room of the first of them, the reserve behind the
-// last, how often they were weighed, and what the first needed at the level tried last, if one was.
+// last, how often they were weighed, and what the first needed at the level tried last, if one was. A range in place of
+// `from` and `to` is not Copy: each step would have to take it apart and make it again.
 #[derive(Clone, Copy)]
 pub struct Block {
     pub from: usize,

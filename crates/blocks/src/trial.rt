@@ -61,7 +61,8 @@ impl Block {
         }
     }
 
-    // What the frames of the block share that are free between two levels.
+    // What the frames of the block share that are free between two levels. These stay two numbers: `Bounds` are of 32
+    // bits, and the mean of few frames can be more.
     fn share(self, frames: Frames, floor: u64, roof: u64) -> Shared {
         let mut s = Shared {
             have: 0,
