@@ -2,7 +2,7 @@
 use Rattle.std.specs.Prelude.{List, [], ◌∷◌, ℕ}
 use Rattle.model.specs.Frames.{Frame, left, Feasible}
 use Rattle.certifier.specs.declared.frame.Rule.{Rule}
-use Rattle.certifier.specs.Readable.{Lent}
+use Rattle.certifier.specs.Readable.{Startable, Lent}
 use Rattle.certifier.specs.Steps.{Able}
 use Rattle.std.proofs.Props.{props}
 
@@ -18,3 +18,6 @@ Able-prop e fs i y = Feasible-prop _ _ _ _
 
 pub Lent-prop : (r : Rule) (hs ls ms : List ℕ) (y : ℕ) (rs bs : List ℕ) → IsProp (Lent r hs ls ms y rs bs)
 Lent-prop r hs ls ms y rs bs = Prim.hlevel (props, Able-prop)
+
+pub Startable-prop : (r : Rule) (hs ls ms : List ℕ) (y : ℕ) → IsProp (Startable r hs ls ms y)
+Startable-prop r hs ls ms y = Prim.hlevel (props, Able-prop)

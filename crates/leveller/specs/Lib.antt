@@ -1,2 +1,3 @@
 -- What planning asks and gives.
 pub mod Plan
+pub mod Says

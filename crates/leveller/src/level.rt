@@ -1,11 +1,11 @@
 // The first guess: one level for all frames, at which they draw all that there is to draw: the mean, or, where frames
 // are bounded, the mean of what the others leave. Many requests have no other level. Where the store runs dry or
 // overflows at it in the first frames, as before a sunrise, it is not worth a certificate.
-ghost use Rattle.std.specs.Prelude.{◌≡◌, length};
-ghost use Rattle.certifier.specs.Says.{Readable};
+ghost use Rattle.std.specs.Prelude.{◌≤◌};
 
-use certifier::{Rule, draw, frame_at};
-use numbers::{fill, less, low_bits, minus, over, plus, wide, within};
+use certifier::Frames;
+use model::Lists;
+use model::limits::NO_UPPER_END;
 
 // How many frames are the first ones.
 const FIRST: usize = 64;
@@ -13,224 +13,136 @@ const FIRST: usize = 64;
 // How often the level of bounded frames is looked for.
 const ROUNDS: u64 = 6;
 
+// Whether some frame has a least or an upper end: the string knows no bounds.
+pub fn is_bounded(lists: Lists) -> bool {
+    lists
+        .least
+        .iter()
+        .zip(lists.most)
+        .any(|(least, most)| 0 < *least || *most != NO_UPPER_END)
+}
+
+// What each of n has of a; all of it where there is none.
+fn over(a: u64, n: u64) -> u64 {
+    a.checked_div(n).unwrap_or(a)
+}
+
+// The low 32 bits, as a level.
+fn low_bits(x: u64) -> u32 {
+    (x % 4294967296) as u32
+}
+
 // All that comes in, less what is drained.
-fn brought(rule: Rule, harvest: &[u32], least: &[u32], most: &[u32]) -> u64
-    requires { Readable rule harvest.now least.now most.now }
-{
-    let mut inflows = 0;
-    let mut drains = 0;
-    let mut i = 0;
-    while i < harvest.len() {
-        let f = frame_at(rule, harvest, least, most, i);
-        inflows = plus(inflows, f.inflow);
-        drains = plus(drains, f.drain);
-        i += 1;
+fn brought(frames: Frames) -> u64 {
+    let mut inflows = 0u64;
+    let mut drains = 0u64;
+    for i in 0..frames.count() {
+        let f = frames.at(i);
+        inflows = inflows.wrapping_add(f.inflow);
+        drains = drains.wrapping_add(f.drain);
     }
-    less(inflows, drains)
+    inflows.saturating_sub(drains)
 }
 
 // Whether the first frames can draw a level: the store neither runs dry nor overflows.
-fn lasts_at_first(
-    rule: Rule,
-    harvest: &[u32],
-    least: &[u32],
-    most: &[u32],
-    start: u64,
-    level: u64,
-) -> bool
-    requires { Readable rule harvest.now least.now most.now }
-{
-    let last = within(FIRST, harvest.len());
+fn lasts_at_first(frames: Frames, start: u64, level: u64) -> bool {
     let mut charge = start;
-    let mut i = 0;
-    while i < last {
-        let f = frame_at(rule, harvest, least, most, i);
-        let have = plus(charge, f.inflow);
-        let need = plus(f.drain, draw(f.least, f.most, level));
-        if f.ceiling < have {
+    for i in 0..FIRST.min(frames.count()) {
+        let f = frames.at(i);
+        let have = charge.wrapping_add(f.inflow);
+        let need = f.drain.wrapping_add(f.draw(level));
+        if f.ceiling < have || have < need {
             return false;
         }
-        if have < need {
-            return false;
-        }
-        charge = minus(have, need);
-        i += 1;
+        charge = have - need;
     }
     true
 }
 
 // What there is to draw until the end.
-fn to_draw(rule: Rule, harvest: &[u32], least: &[u32], most: &[u32], start: u64) -> u64
-    requires { Readable rule harvest.now least.now most.now }
-{
-    less(plus(start, brought(rule, harvest, least, most)), rule.end)
+fn to_draw(frames: Frames, start: u64) -> u64 {
+    start
+        .wrapping_add(brought(frames))
+        .saturating_sub(frames.rule.end)
 }
 
-// Writes a level as that of every frame, if the first of them can draw it. Says whether it did.
-fn level_all(
-    rule: Rule,
-    harvest: &[u32],
-    least: &[u32],
-    most: &[u32],
-    start: u64,
-    level: u64,
-    levels: &mut [u32],
-) -> bool
-    requires { Readable rule harvest.now least.now most.now }
-    ensures { length levels.new ≡ length levels.old }
-{
-    if lasts_at_first(rule, harvest, least, most, start, level) {
-        fill(levels, 0, levels.len(), level);
-        return true;
-    }
-    false
+// A level of 32 bits, if the first frames can draw it.
+fn worth_trying(frames: Frames, start: u64, level: u64) -> Option<u32> {
+    lasts_at_first(frames, start, level).then_some(low_bits(level))
 }
 
 // The mean as the level of every frame.
-pub fn one_level(
-    rule: Rule,
-    harvest: &[u32],
-    least: &[u32],
-    most: &[u32],
-    start: u64,
-    levels: &mut [u32],
-) -> bool
-    requires { Readable rule harvest.now least.now most.now }
-    ensures { length levels.new ≡ length levels.old }
-{
-    let all = to_draw(rule, harvest, least, most, start);
-    let mean = over(all, harvest.len() as u64);
-    level_all(rule, harvest, least, most, start, mean, levels)
+pub fn one_level(frames: Frames, start: u64) -> Option<u32> {
+    let mean = over(to_draw(frames, start), frames.count() as u64);
+    worth_trying(frames, start, mean)
 }
 
 // Whether the first frames run dry at a level well below this one, or overflow at one well above it.
-fn is_hopeless(
-    rule: Rule,
-    harvest: &[u32],
-    least: &[u32],
-    most: &[u32],
-    start: u64,
-    level: u64,
-) -> bool
-    requires { Readable rule harvest.now least.now most.now }
-{
+fn is_hopeless(frames: Frames, start: u64, level: u64) -> bool {
     let margin = level / 8;
-    let last = within(FIRST, harvest.len());
     let mut more = start;
     let mut fewer = start;
-    let mut i = 0;
-    while i < last {
-        let f = frame_at(rule, harvest, least, most, i);
-        let need = plus(f.drain, draw(f.least, f.most, minus(level, margin)));
-        more = plus(more, f.inflow);
-        fewer = plus(fewer, f.inflow);
-        if f.ceiling < fewer {
+    for i in 0..FIRST.min(frames.count()) {
+        let f = frames.at(i);
+        let need = f.drain.wrapping_add(f.draw(level - margin));
+        more = more.wrapping_add(f.inflow);
+        fewer = fewer.wrapping_add(f.inflow);
+        if f.ceiling < fewer || more < need {
             return true;
         }
-        if more < need {
-            return true;
-        }
-        more = minus(more, need);
-        fewer = less(
-            fewer,
-            plus(f.drain, draw(f.least, f.most, plus(level, margin))),
-        );
-        i += 1;
+        more -= need;
+        fewer = fewer.saturating_sub(f.drain.wrapping_add(f.draw(level.wrapping_add(margin))));
     }
     false
 }
 
 // What frames draw at a level, and how many of them would draw more at one level more.
-#[derive(Clone, Copy)]
-pub struct Drawn {
-    pub sum: u64,
-    pub free: u64,
-}
-
-// What a frame with these bounds takes at a level.
-fn draw_of(least: u32, most: u32, level: u32) -> u32 {
-    if level < least {
-        return least;
-    }
-    if level < most {
-        return level;
-    }
-    most
-}
-
-// 1 for a frame with these bounds that would take more at one level more, else 0.
-fn free_of(least: u32, most: u32, level: u32) -> u32 {
-    if level < least {
-        return 0;
-    }
-    if level < most {
-        return 1;
-    }
-    0
+#[derive(Clone, Copy, Default)]
+struct Drawn {
+    sum: u64,
+    free: u64,
 }
 
 // What all frames draw at a level; a most that stands for no upper end is above it.
-fn drawn_at(least: &[u32], most: &[u32], level: u64) -> Drawn
-    requires { length most.now ≡ length least.now }
-{
-    let short = low_bits(level) as u32;
-    let mut sum = 0;
-    let mut free = 0;
-    let mut i = 0;
-    while i < least.len() {
-        sum = plus(sum, wide(draw_of(least[i], most[i], short)));
-        free = plus(free, wide(free_of(least[i], most[i], short)));
-        i += 1;
-    }
-    Drawn {
-        sum: sum,
-        free: free,
-    }
+fn drawn_at(lists: Lists, level: u32) -> Drawn {
+    lists.least.iter().zip(lists.most).fold(
+        Drawn::default(),
+        |d, (least, most)| Drawn {
+            sum: d.sum.wrapping_add((*least).max((*most).min(level)) as u64),
+            free: d
+                .free
+                .wrapping_add((*least <= level && level < *most) as u64),
+        },
+    )
 }
 
 // The level at which all would be drawn, if the same frames were free there.
 fn nearer(level: u64, d: Drawn, all: u64) -> u64 {
     if d.sum <= all {
-        return plus(level, over(minus(all, d.sum), d.free));
+        return level.wrapping_add(over(all - d.sum, d.free));
     }
-    less(level, plus(over(minus(minus(d.sum, all), 1), d.free), 1))
+    level.saturating_sub(over(d.sum - all - 1, d.free).wrapping_add(1))
 }
 
 // The level at which all is drawn, or whatever is reached where that is not found in some rounds.
-fn shared_level(least: &[u32], most: &[u32], all: u64, first: u64) -> u64
-    requires { length most.now ≡ length least.now }
-{
+fn shared_level(lists: Lists, all: u64, first: u64) -> u64 {
     let mut level = first;
-    let mut rounds = ROUNDS;
-    while 0 < rounds {
-        let d = drawn_at(least, most, level);
-        let next = nearer(level, d, all);
+    for _ in 0..ROUNDS {
+        let next = nearer(level, drawn_at(lists, low_bits(level)), all);
         if next == level {
-            return level;
+            break;
         }
         level = next;
-        rounds -= 1;
     }
     level
 }
 
 // The level at which bounded frames draw all as that of every frame.
-pub fn one_shared_level(
-    rule: Rule,
-    harvest: &[u32],
-    least: &[u32],
-    most: &[u32],
-    start: u64,
-    levels: &mut [u32],
-) -> bool
-    requires { Readable rule harvest.now least.now most.now }
-    ensures { length levels.new ≡ length levels.old }
-{
-    let all = to_draw(rule, harvest, least, most, start);
-    let mean = over(all, harvest.len() as u64);
-    if is_hopeless(rule, harvest, least, most, start, mean) {
-        return false;
+pub fn one_shared_level(frames: Frames, start: u64) -> Option<u32> {
+    let all = to_draw(frames, start);
+    let mean = over(all, frames.count() as u64);
+    if is_hopeless(frames, start, mean) {
+        return None;
     }
-    let level = shared_level(least, most, all, mean);
-    level_all(rule, harvest, least, most, start, level, levels)
+    worth_trying(frames, start, shared_level(frames.lists, all, mean))
 }

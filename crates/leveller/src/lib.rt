@@ -9,10 +9,11 @@
 // curve (`curve`), or frames are split at levels (`blocks`, `splitting`); and levels are whole numbers.
 #![tactic(auto)]
 
-mod bounded;
+mod guess;
 mod level;
-mod peak;
 mod plan;
+mod task;
 
-pub use peak::plan_peak;
-pub use plan::plan_into;
+pub use certifier::Rule;
+pub use plan::{plan_into, plan_peak};
+pub use task::Task;

@@ -1,9 +1,0 @@
--- Each frame is passed once.
-use Rattle.std.proofs.Common.{◌-◌, ◌≤◌, length}
-use Rattle.leveller.proofs.bounded.is_bounded.Given as goal
-
-abbrev pub invariant-loop-i : goal.invariant-loop-i
-invariant-loop-i l = l.i ≤ length l.least
-
-abbrev pub decreases-loop-i : goal.decreases-loop-i
-decreases-loop-i l = length l.least - l.i
