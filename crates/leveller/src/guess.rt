@@ -3,7 +3,7 @@ ghost use Rattle.std.specs.Prelude.{true, ◌<◌, ◌^◌};
 ghost use Rattle.certifier.specs.Draft.{TriedOn};
 
 use certifier::{Draft, Frames};
-use curve::curve_levels;
+use curve::{Knot, curve_levels};
 use splitting::split_levels;
 use string::string_levels;
 
@@ -35,22 +35,13 @@ pub fn by_one_level(draft: &mut Draft, level: Option<u32>) -> bool
 }
 
 // The plan by the curve, which keeps the highest levels in `marks`.
-fn by_curve(draft: &mut Draft, marks: &mut [u32], knots: &mut [u64]) -> bool
+fn by_curve(draft: &mut Draft, marks: &mut [u32], knots: &mut [Knot]) -> bool
     ensures { TriedOn draft.old draft.new result }
 {
-    by_guess(draft, |frames, start, levels, _| {
-        let l = frames.lists;
-        curve_levels(
-            frames.rule,
-            l.harvest,
-            l.least,
-            l.most,
-            start,
-            levels,
-            marks,
-            knots,
-        )
-    })
+    by_guess(
+        draft,
+        |frames, start, levels, _| curve_levels(frames, start, levels, marks, knots),
+    )
 }
 
 // The same with a list for so many knots.
@@ -58,7 +49,7 @@ pub fn by_curve_of<const KNOTS: usize>(draft: &mut Draft, marks: &mut [u32]) -> 
     requires { KNOTS < 2 ^ 32 }
     ensures { TriedOn draft.old draft.new result }
 {
-    let mut knots = [0u64; KNOTS];
+    let mut knots = [Knot::default(); KNOTS];
     by_curve(draft, marks, &mut knots)
 }
 
@@ -84,17 +75,7 @@ pub fn by_splitting(draft: &mut Draft, marks: &mut [u32]) -> bool
     ensures { TriedOn draft.old draft.new result }
 {
     by_guess(draft, |frames, start, levels, after| {
-        let l = frames.lists;
-        split_levels(
-            frames.rule,
-            l.harvest,
-            l.least,
-            l.most,
-            start,
-            levels,
-            after,
-            marks,
-        );
+        split_levels(frames, start, levels, after, marks);
         true
     })
 }
