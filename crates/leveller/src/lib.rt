@@ -11,9 +11,10 @@
 
 mod guess;
 mod level;
+mod old;
 mod plan;
 mod task;
 
 pub use certifier::Rule;
-pub use plan::{plan_into, plan_peak};
+pub use old::{plan_into, plan_peak};
 pub use task::Task;

@@ -65,18 +65,6 @@ fn plan_in<const N: usize>(task: Task, budgets: &mut [u32])
     plan_with(&mut draft, &mut marks);
 }
 
-// Writes the plan's budgets.
-pub fn plan_into(task: Task, budgets: &mut [u32])
-    requires { length budgets.old ≡ frame_count task.frames }
-    ensures { PlannedIn task.entry.frames task.entry.start budgets.new }
-{
-    if task.frames.count() <= DAY {
-        plan_in::<DAY>(task, budgets);
-    } else {
-        plan_in::<MAX_FRAMES>(task, budgets);
-    }
-}
-
 // What the plan requires of the store, with a list for N frames.
 fn peak_in<const N: usize>(task: Task) -> u64
     requires { (frame_count task.frames ≤ N) × (N ≤ max_frames) }
@@ -84,17 +72,31 @@ fn peak_in<const N: usize>(task: Task) -> u64
 {
     let mut list = [0u32; N];
     let budgets = &mut list[..task.frames.count()];
-    plan_into(task, budgets);
+    task.plan_into(budgets);
     peak_requirement(task.frames, budgets)
 }
 
-// The greatest charge that the plan requires after any frame.
-pub fn plan_peak(task: Task) -> u64
-    ensures { PeakOf task.entry result }
-{
-    if task.frames.count() <= DAY {
-        peak_in::<DAY>(task)
-    } else {
-        peak_in::<MAX_FRAMES>(task)
+impl Task<'_> {
+    // Writes the plan's budgets.
+    pub fn plan_into(self, budgets: &mut [u32])
+        requires { length budgets.old ≡ frame_count self.frames }
+        ensures { PlannedIn self.entry.frames self.entry.start budgets.new }
+    {
+        if self.frames.count() <= DAY {
+            plan_in::<DAY>(self, budgets);
+        } else {
+            plan_in::<MAX_FRAMES>(self, budgets);
+        }
+    }
+
+    // The greatest charge that the plan requires after any frame.
+    pub fn peak(self) -> u64
+        ensures { PeakOf self.entry result }
+    {
+        if self.frames.count() <= DAY {
+            peak_in::<DAY>(self)
+        } else {
+            peak_in::<MAX_FRAMES>(self)
+        }
     }
 }
