@@ -36,8 +36,9 @@ impl End {
 // ends have says nothing. Level 0 is never counted and taken for one below the low end: no level is lower, so nobody asks
 // for the reserve there. No level is above the roof.
 //
-// What is done at its two ends differs in which end it is, in which way levels are counted and in what is below and above:
-// a function for each.
+// What is done at the two ends is no pair of twins: at the low one levels are counted up from a reserve of 0, at the high
+// one down from the full store, and sums stand there for differences. Nothing is promised of any figure, so what does not
+// fit is cut to its low bits, and the guess may be wrong then.
 #[derive(Drop)]
 pub struct Curve<'a> {
     pub roof: u64,

@@ -1,9 +1,11 @@
 // Knots: levels at which the growth of a curve changes. They stand in rising order in a part of a list that grows and
 // shrinks at both ends; where an end of the list is reached, knots are lost, and the guess may be wrong then.
-ghost use Rattle.std.specs.Prelude.{◌+◌, ◌<◌, ◌≤◌, length};
+ghost use Rattle.std.specs.Prelude.{◌≡◌, ◌+◌, ◌<◌, ◌≤◌, length};
+
+use model::limits::MAX_FRAMES;
 
 // How many moves of knots there may be: 128 for each frame of the most that a request has.
-const MOVES: usize = 86016;
+const MOVES: usize = 128 * MAX_FRAMES;
 
 // The low 32 bits.
 pub fn low_bits(x: u64) -> u32 {
@@ -98,79 +100,74 @@ impl<'a> Knots<'a> {
         }
         let middle = self.first + (self.end - self.first) / 2;
         if knot.place < self.list[middle].place {
-            let i = sort_up(self.list, self.first, self.end, knot);
-            self.moves = self.moves.wrapping_add(i - self.first);
-            self.first -= 1;
+            self.insert_from_first(knot);
         } else {
-            let i = sort_down(self.list, self.first, self.end, knot);
-            self.moves = self.moves.wrapping_add(self.end - i);
-            self.end += 1;
+            self.insert_from_end(knot);
         }
     }
-}
 
-// Where a knot goes is searched and made room for knot by knot, four at a time as long as there are four: by
-// `partition_point` and `copy_within`, or by one knot at a time, the curve takes 11 to 16 % more instructions, and where
-// all bounds are close by 35 to 45 % more, a fifth more than a plan may take there. As methods of `Knots` the two
-// functions would keep its ends in memory; so the list and both ends are handed on. They are no twins: one goes up and
-// writes below, the other goes down and writes above.
+    // The next two are no twins: one frees a place below the first knot and goes up, the other one above the last and goes
+    // down. Both move knots as they search, four at a time as long as there are four, which counts by hand. Where the
+    // bounds of all frames are close, the curve takes 35 % more instructions by `partition_point` and `copy_within`, and
+    // 44 % more by one knot at a time: both miss what docs/BENCHMARKS.md says of such plans, the dearest that there are.
 
-// Four knots go to another place.
-fn move_four(list: &mut [Knot], from: usize, to: usize)
-    requires { (from + 4 ≤ length list.old) × (to + 4 ≤ length list.old) }
-{
-    let a = list[from];
-    let b = list[from + 1];
-    let c = list[from + 2];
-    let d = list[from + 3];
-    list[to] = a;
-    list[to + 1] = b;
-    list[to + 2] = c;
-    list[to + 3] = d;
-}
-
-// Writes a knot before all that are not below it; those from `first` on that are below it go down by one place. Gives
-// where the next one stands.
-fn sort_up(list: &mut [Knot], first: usize, end: usize, knot: Knot) -> usize
-    requires { (0 < first) × (first ≤ end) × (end ≤ length list.old) }
-    ensures { (first ≤ result) × (result ≤ end) }
-{
-    let mut from = first;
-    while from + 4 <= end && list[from + 3].place < knot.place {
-        move_four(list, from, from - 1);
-        from += 4;
-    }
-    for i in from..end {
-        let next = list[i];
-        if knot.place <= next.place {
-            list[i - 1] = knot;
-            return i;
+    // Puts a knot before all that are not below it; those below it go down by one place.
+    fn insert_from_first(&mut self, knot: Knot)
+        requires { 0 < self.old.first }
+    {
+        let mut gap = self.first - 1;
+        while gap + 4 < self.end && self.list[gap + 4].place < knot.place {
+            self.move_four(gap + 1, gap);
+            gap += 4;
         }
-        list[i - 1] = next;
-    }
-    list[end - 1] = knot;
-    end
-}
-
-// Writes a knot behind all that are not above it; those before `end` that are above it go up by one place. Gives where it
-// stands.
-fn sort_down(list: &mut [Knot], first: usize, end: usize, knot: Knot) -> usize
-    requires { (first ≤ end) × (end < length list.old) }
-    ensures { (first ≤ result) × (result ≤ end) }
-{
-    let mut to = end;
-    while first + 4 <= to && knot.place < list[to - 4].place {
-        to -= 4;
-        move_four(list, to, to + 1);
-    }
-    for i in (first..to).rev() {
-        let next = list[i];
-        if next.place <= knot.place {
-            list[i + 1] = knot;
-            return i + 1;
+        for i in gap + 1..self.end {
+            let next = self.list[i];
+            if knot.place <= next.place {
+                break;
+            }
+            self.list[gap] = next;
+            gap = i;
         }
-        list[i + 1] = next;
+        self.list[gap] = knot;
+        self.moves = self.moves.wrapping_add(gap + 1 - self.first);
+        self.first -= 1;
     }
-    list[first] = knot;
-    first
+
+    // Puts a knot behind all that are not above it; those above it go up by one place.
+    fn insert_from_end(&mut self, knot: Knot)
+        requires { self.old.end < length self.old.list.now }
+    {
+        let mut gap = self.end;
+        while self.first + 4 <= gap && knot.place < self.list[gap - 4].place {
+            gap -= 4;
+            self.move_four(gap, gap + 1);
+        }
+        for i in (self.first..gap).rev() {
+            let next = self.list[i];
+            if next.place <= knot.place {
+                break;
+            }
+            self.list[gap] = next;
+            gap = i;
+        }
+        self.list[gap] = knot;
+        self.moves = self.moves.wrapping_add(self.end - gap);
+        self.end += 1;
+    }
+
+    // Four knots go to another place.
+    fn move_four(&mut self, from: usize, to: usize)
+        requires { (from + 4 ≤ length self.old.list.now) × (to + 4 ≤ length self.old.list.now) }
+        ensures { (self.new.first ≡ self.old.first) × (self.new.end ≡ self.old.end) ×
+            (length self.new.list.now ≡ length self.old.list.now) }
+    {
+        let a = self.list[from];
+        let b = self.list[from + 1];
+        let c = self.list[from + 2];
+        let d = self.list[from + 3];
+        self.list[to] = a;
+        self.list[to + 1] = b;
+        self.list[to + 2] = c;
+        self.list[to + 3] = d;
+    }
 }

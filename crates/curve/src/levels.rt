@@ -86,7 +86,8 @@ fn choose(roof: u32, lows: &mut [u32], highs: &[u32]) {
 }
 
 // Writes the levels at which the curve leaves 0 or becomes full where the levels turn. Says whether it was not
-// given up; `highs` and `knots` are scratch.
+// given up; `highs` and `knots` are scratch. They are three lists, since memory is fixed: the levels stand in the list that
+// becomes the budgets, and the other two are lent by whoever has room, also to other guesses.
 pub fn curve_levels(
     frames: Frames,
     start: u64,
