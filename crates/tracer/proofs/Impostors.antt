@@ -4,14 +4,15 @@ use mathlib.Core.List.{List, [], ◌∷◌}
 use Prim.Native.Nat.{ℕ}
 use lib.IntN.{ℤ}
 use lib.ListN.{length, replicate}
-use Rattle.model.specs.Refusals.{Refusal}
+use Rattle.std.proofs.Common.{Result, Err}
+use Rattle.model.specs.declared.refusal.Refusal.{Refusal as Given}
+use Rattle.model.specs.Answer.{told}
+use Rattle.tracer.specs.declared.Verdict.{Verdict as Answered}
 use Rattle.model.specs.Choice.{pick}
 use Rattle.model.specs.Request.{Request, figures, request}
 use Rattle.model.specs.Refusals.{is_none, trace_refusal}
 use Rattle.model.specs.Trace.{verdict, trace_losses}
 use Rattle.model.proofs.Outcome.{no_refusal}
-use Rattle.tracer.specs.declared.TraceAnswer.{TraceAnswer}
-use Rattle.tracer.specs.declared.TraceAnswer.TheVariants.{Refused}
 use Rattle.tracer.specs.Says.{TraceSays}
 
 -- document 01's request that it traces with budgets 4, 4, 4, 4, 2, 2
@@ -19,20 +20,20 @@ abbrev pub traced : Request
 traced = request (figures 22 2 2) (6 ∷ 4 ∷ 0 ∷ 0 ∷ 5 ∷ 5 ∷ [])
 
 -- no refusal of it, with any six budgets and any lists of six charges and six losses lent, whatever is handed back
-pub not_refused : (bs : List ℕ) (xs ys : List ℤ) (ls ms : List ℕ) (f : Refusal) →
-    length bs ≡ 6 → length xs ≡ 6 → length ls ≡ 6 → TraceSays traced bs xs ys ls ms (Refused f) → ⊥
-not_refused bs xs ys ls ms f b c l p =
+pub not_refused : (bs : List ℕ) (xs ys : List ℤ) (ls ms : List ℕ) (e : Given) →
+    length bs ≡ 6 → length xs ≡ 6 → length ls ≡ 6 → TraceSays traced bs xs ys ls ms (Err e) → ⊥
+not_refused bs xs ys ls ms e b c l p =
     no_refusal (trace_refusal traced (length bs) (length xs) (length ls)) (verdict traced bs)
     (ap (λ (n : ℕ). is_none (trace_refusal traced n (length xs) (length ls))) b
     ∙ (ap (λ (n : ℕ). is_none (trace_refusal traced 6 n (length ls))) c
-    ∙ ap (λ (n : ℕ). is_none (trace_refusal traced 6 6 n)) l)) f p.answer
+    ∙ ap (λ (n : ℕ). is_none (trace_refusal traced 6 6 n)) l)) (told e) p.answer
 
 -- the listing's request, whose six zeros lose 3, 4, 0, 0, 5, 5 by document 02
 abbrev pub idle : Request
 idle = request (figures 5 2 2) (6 ∷ 4 ∷ 0 ∷ 0 ∷ 5 ∷ 5 ∷ [])
 
 -- no other losses of them, whatever was lent and answered: not zeros, and not the list as it was
-pub other_losses_refused : (xs ys : List ℤ) (ls ms : List ℕ) (r : TraceAnswer) → length xs ≡ 6 → length ls ≡ 6 →
+pub other_losses_refused : (xs ys : List ℤ) (ls ms : List ℕ) (r : Result Answered Given) → length xs ≡ 6 → length ls ≡ 6 →
     TraceSays idle (replicate 6 0) xs ys ls ms r → ms ≡ 3 ∷ 4 ∷ 0 ∷ 0 ∷ 5 ∷ 5 ∷ []
 other_losses_refused xs ys ls ms r c l p =
     p.losses

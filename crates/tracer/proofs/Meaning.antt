@@ -9,28 +9,30 @@ use lib.IntN.{ℤ, pos}
 use lib.Signed.{le_z, non_neg}
 use lib.ListN.{length, get_or}
 use borrow.Author.Tests.{leb-false}
-use Rattle.model.specs.Refusals.{Refusal}
 use Rattle.model.specs.Choice.{pick}
 use Rattle.model.specs.Request.{Request, frame_count}
-use Rattle.model.specs.Refusals.{gives, refuses, is_none, trace_refusal}
+use Rattle.model.specs.Refusals.{none, gives, refuses, is_none, trace_refusal}
 use Rattle.model.specs.Trace.{below_zero, end_too_low, is_feasible, below_from, last_from, trace, verdict, EarliestBelow}
 use Rattle.model.specs.Trace.{trace_losses}
 use Rattle.model.proofs.Trace as model
 use Rattle.model.proofs.Losses.{trace_accounted}
 use Rattle.model.proofs.Choice.{apart, pick_by}
 use Rattle.request.proofs.Within.{trace_within}
-use Rattle.tracer.specs.declared.TraceAnswer.{TraceAnswer}
-use Rattle.tracer.specs.declared.TraceAnswer.TheVariants.{Feasible, EndTooLow, BelowZero, Refused}
-use Rattle.tracer.specs.Says.{said, judged, TraceSays}
+use Rattle.std.proofs.Common.{Ok, Err}
+use Rattle.model.specs.declared.refusal.Refusal.{Refusal as Given}
+use Rattle.model.specs.Answer.{told}
+use Rattle.model.proofs.Answer.{told_some}
+use Rattle.tracer.specs.declared.Verdict.{Verdict as Answered}
+use Rattle.tracer.specs.declared.Verdict.TheVariants.{Feasible, EndTooLow, BelowZero}
+use Rattle.tracer.specs.Says.{verdict_said, judged, TraceSays}
 use Rattle.tracer.proofs.Search.{last_any, none_below}
 
 -- a refusal alters nothing and is answered
-pub refused : (q : Request) (bs : List ℕ) (xs : List ℤ) (ls : List ℕ) (f : Refusal) →
-    f ≡ trace_refusal q (length bs) (length xs) (length ls) → is_none f ≡ false →
-    TraceSays q bs xs xs ls ls (Refused f)
-refused q bs xs ls f p e =
+pub refused : (q : Request) (bs : List ℕ) (xs : List ℤ) (ls : List ℕ) (e : Given) →
+    told e ≡ trace_refusal q (length bs) (length xs) (length ls) → TraceSays q bs xs xs ls ls (Err e)
+refused q bs xs ls e p =
     let g = trace_refusal q (length bs) (length xs) (length ls) in
-    let n : is_none g ≡ false = sym (ap is_none p) ∙ e in
+    let n : is_none g ≡ false = sym (ap is_none p) ∙ told_some e in
     record {
       answer = ap refuses p ∙ sym (pick_by (is_none g) false (gives (verdict q bs)) (refuses g) n);
       charges = sym (pick_by (is_none g) false (trace q bs) xs n);
@@ -44,30 +46,27 @@ refused q bs xs ls f p e =
     }
 
 -- the answer that the charges earn is the verdict that they earn
-said_by : (k : ℕ) (s t : Bool)
-    → said (pick s (BelowZero k) (pick t Feasible EndTooLow)) ≡ gives
-    (pick s (below_zero k) (pick t is_feasible end_too_low))
+said_by : (k : ℕ) (s t : Bool) → verdict_said (pick s (BelowZero k) (pick t Feasible EndTooLow)) ≡
+    pick s (below_zero k) (pick t is_feasible end_too_low)
 said_by k true t = refl
 said_by k false true = refl
 said_by k false false = refl
 
 said_judged : (q : Request) (bs : List ℕ) → 1 ≤ frame_count q → length bs ≡ frame_count q →
-    said (judged q.figures.end (trace q bs)) ≡ gives (verdict q bs)
+    verdict_said (judged q.figures.end (trace q bs)) ≡ verdict q bs
 said_judged q bs l m =
     let zs = trace q bs in
     let k = below_from 1 zs in
     let n = (trace_accounted q bs m).charges_long in
     said_by k (leb 1 k) (le_z (pos q.figures.end) (last_from (pos 0) zs))
-    ∙ ap (λ (z : ℤ). gives
-    (pick (leb 1 k) (below_zero k) (pick (le_z (pos q.figures.end) z) is_feasible end_too_low)))
+    ∙ ap (λ (z : ℤ). pick (leb 1 k) (below_zero k) (pick (le_z (pos q.figures.end) z) is_feasible end_too_low))
     (last_any (pos 0) (pos q.figures.start) zs (omega arith))
 
--- only one answer says "feasible", and only one names a frame
-said_feasible : (r : TraceAnswer) → said r ≡ gives is_feasible → r ≡ Feasible
+-- only one verdict says "feasible"
+said_feasible : (v : Answered) → verdict_said v ≡ is_feasible → v ≡ Feasible
 said_feasible Feasible e = refl
 said_feasible EndTooLow e = cc
 said_feasible (BelowZero n) e = cc
-said_feasible (Refused f) e = cc
 
 -- a frame that the verdict names is the earliest below zero
 earliest_of : (q : Request) (bs : List ℕ) (ys : List ℤ) (k : ℕ) → verdict q bs ≡ below_zero k → ys ≡ trace q bs →
@@ -97,22 +96,23 @@ too_low_of q bs ys u p =
     (sym p)
     (none_below 0 zs (omega arith), l.1)
 
--- where nothing is refused, the charges and losses of the trace and the answer that the charges earn keep the promise
-pub traced : (q : Request) (bs : List ℕ) (xs ys : List ℤ) (ls ms : List ℕ) (r : TraceAnswer) →
-    is_none (trace_refusal q (length bs) (length xs) (length ls)) ≡ true →
-    ys ≡ trace q bs → ms ≡ trace_losses q bs → r ≡ judged q.figures.end ys → TraceSays q bs xs ys ls ms r
-traced q bs xs ys ls ms r n p o e =
+-- where nothing is refused, the charges and losses of the trace and the verdict that the charges earn keep the promise
+pub traced : (q : Request) (bs : List ℕ) (xs ys : List ℤ) (ls ms : List ℕ) (v : Answered) →
+    none ≡ trace_refusal q (length bs) (length xs) (length ls) →
+    ys ≡ trace q bs → ms ≡ trace_losses q bs → v ≡ judged q.figures.end ys → TraceSays q bs xs ys ls ms (Ok v)
+traced q bs xs ys ls ms v f p o e =
     let g = trace_refusal q (length bs) (length xs) (length ls) in
+    let n : is_none g ≡ true = ap is_none (sym f) in
     let w = trace_within q (length bs) (length xs) (length ls) n in
-    let v : said r ≡ gives (verdict q bs) =
-    ap said e ∙ ap (λ (zs : List ℤ). said (judged q.figures.end zs)) p
+    let u : verdict_said v ≡ verdict q bs =
+    ap verdict_said e ∙ ap (λ (zs : List ℤ). verdict_said (judged q.figures.end zs)) p
     ∙ said_judged q bs w.frames.some w.budgets in
     let m = model.verdict_feasible q bs w.budgets in
     record {
-      answer = v ∙ sym (pick_by (is_none g) true (gives (verdict q bs)) (refuses g) n);
+      answer = ap gives u ∙ sym (pick_by (is_none g) true (gives (verdict q bs)) (refuses g) n);
       charges = p ∙ sym (pick_by (is_none g) true (trace q bs) xs n);
       losses = o ∙ sym (pick_by (is_none g) true (trace_losses q bs) ls n);
-      feasible = λ h. ((λ a. m.0 (cc)), (λ a. said_feasible r (v ∙ ap gives (m.1 a))));
+      feasible = λ h. ((λ a. m.0 (cc)), (λ a. ap Ok (said_feasible v (u ∙ m.1 a))));
       feasible_charges = λ a. p ∙ model.trace_charges q bs (m.0 (cc));
       feasible_losses = λ a. o ∙ model.trace_losses_lem q bs (m.0 (cc));
       accounted = λ h. rw (p, o) (trace_accounted q bs w.budgets);

@@ -4,13 +4,10 @@ use mathlib.Core.Bool.{Bool, true, false}
 use mathlib.Core.List.{List, [], ◌∷◌}
 use Prim.Native.Nat.{ℕ, zero, suc, ◌+◌, ◌≤◌, ◌<◌, ◌^◌}
 use native.Mathlib.Omega.{arith}
-use native.Mathlib.Numerals.{add-one}
-use native.Mathlib.Decide.{dec_le}
 use lib.IntN.{ℤ, pos}
 use lib.Dec.{leb}
 use lib.Signed.{mag, le_z, non_neg}
-use lib.ListN.{length, get_or, drop, drop_of_length-le}
-use lib.Seq.{drop-cons}
+use lib.ListN.{length, get_or, take}
 use mir.Syntax.{w64}
 use mir.Val.{to_z, of_z}
 use borrow.Author.Tests.{le-leb, lt-leb}
@@ -18,45 +15,40 @@ use Rattle.model.specs.Choice.{pick}
 use Rattle.model.specs.Trace.{below_from, last_from}
 use Rattle.model.proofs.Choice.{pick_by}
 use Rattle.tracer.specs.Says.{judged}
-use Rattle.tracer.specs.declared.TraceAnswer.TheVariants.{Feasible, EndTooLow, BelowZero}
+use Rattle.std.proofs.Common.{Option, Some, None, not, cond}
+use Rattle.std.specs.List.{position_from}
+use Rattle.tracer.specs.declared.Verdict.TheVariants.{Feasible, EndTooLow, BelowZero}
 use Rattle.model.proofs.Machine.{widen, back}
 
--- two charges that are left
-two : (i : ℕ) (zs : List ℤ) → i + 1 < length zs → drop i zs ≡ get_or zs i (pos 0)
-    ∷ (get_or zs (suc i) (pos 0) ∷ drop (suc (suc i)) zs)
-two i zs l =
-    drop-cons zs i (pos 0) (omega arith)
-    ∙ ap (λ (ys : List ℤ). get_or zs i (pos 0) ∷ ys) (drop-cons zs (suc i) (pos 0) (omega arith))
+-- whether a charge is below zero
+abbrev pub is_below : ℤ → Bool
+is_below z = not (non_neg z)
 
--- the first of two charges decides by its sign
-by_sign : (k : ℕ) (z y : ℤ) (zs : List ℤ) (t : Bool) → non_neg z ≡ t
-    → below_from k (z ∷ (y ∷ zs)) ≡ elim t as (λ _. ℕ) [ true ↦ below_from (suc k) (y ∷ zs) | false ↦ k ]
-by_sign k z y zs t e = ap (λ (u : Bool). elim u as (λ _. ℕ) [ true ↦ below_from (suc k) (y ∷ zs) | false ↦ k ]) e
+-- a place, from 0, as a frame, the first being frame k; 0 for none
+abbrev pub frame_at : ℕ → Option ℕ → ℕ
+frame_at k None = 0
+frame_at k (Some i) = k + i
 
--- a charge below zero that is not the last is the one found
-pub found : (k i : ℕ) (zs : List ℤ) → i + 1 < length zs → non_neg (get_or zs i (pos 0)) ≡ false →
-    below_from k (drop i zs) ≡ k
-found k i zs l e =
-    ap (below_from k) (two i zs l)
-    ∙ by_sign k (get_or zs i (pos 0)) (get_or zs (suc i) (pos 0)) (drop (suc (suc i)) zs) false e
+-- the earliest frame below zero by the place of the first such charge before the last
+below_place_from : (k i n : ℕ) (zs : List ℤ) → length zs ≡ suc n →
+    frame_at k (position_from is_below i (take n zs)) ≡ below_from (k + i) zs
+below_place_from k i n [] e = let b : ⊥ = omega arith in absurd b
+below_place_from k i zero (z ∷ []) e = refl
+below_place_from k i (suc n) (z ∷ []) e = let b : ⊥ = omega arith in absurd b
+below_place_from k i zero (z ∷ (y ∷ zs)) e = let b : ⊥ = omega arith in absurd b
+below_place_from k i (suc n) (z ∷ (y ∷ zs)) e =
+    let s : k + (i + 1) ≡ suc (k + i) = omega arith in
+    go (non_neg z) (below_place_from k (i + 1) n (y ∷ zs) (omega arith) ∙ ap (λ (m : ℕ). below_from m (y ∷ zs)) s)
+  where
+    go : (t : Bool) → frame_at k (position_from is_below (i + 1) (take n (y ∷ zs))) ≡ below_from (suc (k + i)) (y ∷ zs)
+        → frame_at k (cond (not t) (Some i) (position_from is_below (i + 1) (take n (y ∷ zs))))
+        ≡ elim t as (λ _. ℕ) [ true ↦ below_from (suc (k + i)) (y ∷ zs) | false ↦ k + i ]
+    go true h = h
+    go false h = refl
 
--- any other is passed over
-pub passed : (i : ℕ) (zs : List ℤ) → i + 1 < length zs → non_neg (get_or zs i (pos 0)) ≡ true
-    → below_from (i + 1 + 1) (drop (i + 1) zs) ≡ below_from (i + 1) (drop i zs)
-passed i zs l e =
-    let k : i + 1 + 1 ≡ suc (i + 1) = omega arith in
-    rw (k, add-one i)
-    (ap (below_from (suc (suc i))) (drop-cons zs (suc i) (pos 0) (omega arith))
-    ∙ sym (ap (below_from (suc i)) (two i zs l)
-    ∙ by_sign (suc i) (get_or zs i (pos 0)) (get_or zs (suc i) (pos 0)) (drop (suc (suc i)) zs) true e))
-
--- of the last charge alone none is found
-pub never : (k i : ℕ) (zs : List ℤ) → length zs ≤ i + 1 → below_from k (drop i zs) ≡ 0
-never k i zs l = elim (dec_le (length zs) i) [
-  | yes p ↦ ap (below_from k) (drop_of_length-le zs {i = i} p)
-  | no p ↦ ap (below_from k) (drop-cons zs i (pos 0) (omega arith)
-      ∙ ap (λ (ys : List ℤ). get_or zs i (pos 0) ∷ ys) (drop_of_length-le zs {i = suc i} (omega arith)))
-]
+pub below_place : (n : ℕ) (zs : List ℤ) {r s : Option ℕ} → length zs ≡ suc n → r ≡ s →
+    r ≡ position_from is_below 0 (take n zs) → frame_at 1 s ≡ below_from 1 zs
+below_place n zs e p q = ap (frame_at 1) (sym p ∙ q) ∙ below_place_from 1 0 n zs e
 
 -- the last charge by its place
 pub last_is : (x : ℤ) (n : ℕ) (zs : List ℤ) → length zs ≡ suc n → last_from x zs ≡ get_or zs n (pos 0)

@@ -30,13 +30,9 @@ pub fn fill(
         charge: figures.start as i64,
         lost: 0,
     };
-    let mut i: usize = 0;
-    while i < charges.len() {
-        let next = frame_end(capacity, end.charge, harvest[i], budgets[i]);
-        let charge = next.charge;
-        charges[i] = charge;
-        losses[i] = next.lost as u32;
-        end = next;
-        i += 1;
+    for i in 0..charges.len() {
+        end = frame_end(capacity, end.charge, harvest[i], budgets[i]);
+        charges[i] = end.charge;
+        losses[i] = end.lost as u32;
     }
 }

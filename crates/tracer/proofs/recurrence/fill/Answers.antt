@@ -18,11 +18,11 @@ loop-i-preserved c =
     let hs = a.harvest.now in
     let bs = a.budgets.now in
     let x = l.end.charge in
-    let e = c.frame_end-next.result in
+    let e = c.frame_end-end.result in
     let fh = c.type_inv.harvest i in
     let fb = c.type_inv.budgets i in
     let ended : e ≡ traced_end k x (get_or hs i 0) (get_or bs i 0) =
-    rw (one.back x (omega arith)) at c.frame_end-next.ensures in
+    rw (one.back x (omega arith)) at c.frame_end-end.ensures in
     let moved = one.after_small k x (get_or hs i 0) (get_or bs i 0) (omega arith) (omega arith) (omega arith) in
     let within = part_within_capacity k x (get_or hs i 0) (get_or bs i 0) in
     let lost = lost_within_harvest k x (get_or hs i 0) (get_or bs i 0) l.invariant.held in
@@ -30,7 +30,6 @@ loop-i-preserved c =
     let size = ap (λ (t : TracedEnd). mag t.charge) ended in
     let part = ap (λ (t : TracedEnd). up t.charge) ended in
     rw (one.back e.charge (omega arith)) (record {
-      within = omega arith;
       charges_long = length-set l.charges i _ ∙ l.invariant.charges_long;
       losses_long = length-set l.losses i _ ∙ l.invariant.losses_long;
       small = omega arith;

@@ -1,6 +1,6 @@
 -- Charges and losses written so far and those of the rest stay the whole trace's; no frame moves the charge by 2^34,
 -- and none leaves it above the capacity, so that a loss is at most a harvest.
-use Rattle.std.proofs.Common.{◌≡◌, ◌++◌, ◌+◌, ◌-◌, ◌*◌, ◌≤◌, ◌<◌, ◌^◌, length, take, drop}
+use Rattle.std.proofs.Common.{◌≡◌, ◌++◌, ◌+◌, ◌*◌, ◌≤◌, ◌<◌, ◌^◌, length, take, drop}
 use lib.Signed.{mag}
 use Rattle.model.specs.Trace.{trace_from, trace_losses_from}
 use Rattle.model.proofs.Integers.{up}
@@ -8,7 +8,6 @@ use Rattle.tracer.proofs.recurrence.fill.Given as goal
 
 abbrev pub invariant-loop-i : goal.invariant-loop-i
 invariant-loop-i l = record {
-  within : l.i ≤ length l.initial.charges;
   charges_long : length l.charges ≡ length l.initial.charges;
   losses_long : length l.losses ≡ length l.initial.losses;
   small : mag l.end.charge ≤ 2 ^ 34 * (l.i + 1);
@@ -21,6 +20,3 @@ invariant-loop-i l = record {
       ++ trace_losses_from l.capacity l.end.charge (drop l.i l.harvest) (drop l.i l.budgets)
       ≡ trace_losses_from l.capacity l.initial.end.charge l.harvest l.budgets;
 }
-
-abbrev pub decreases-loop-i : goal.decreases-loop-i
-decreases-loop-i l = length l.initial.charges - l.i
