@@ -5,7 +5,11 @@ use mathlib.Core.List.{List}
 use Prim.Native.Nat.{ℕ, ◌+◌, max}
 use native.Mathlib.Omega.{arith}
 use lib.ListN.{length}
-use Rattle.model.specs.Refusals.{Refusal}
+use Rattle.std.proofs.Common.{Result, Ok, Err}
+use Rattle.model.specs.declared.refusal.Refusal.{Refusal as Given}
+use Rattle.model.specs.Answer.{told, said}
+use Rattle.model.proofs.Answer.{told_some, said_value, said_refusal}
+use Rattle.model.specs.Refusals.{Refusal, none}
 use Rattle.model.specs.Choice.{pick}
 use Rattle.model.specs.declared.Figures.{Figures}
 use Rattle.model.specs.Request.{Request, bounded_request, leasts, total}
@@ -20,17 +24,7 @@ use Rattle.model.proofs.Refusals.{plan_unreachable, needed_unreachable}
 use Rattle.leveller.specs.Plan.{Ready}
 use Rattle.request.proofs.Harvest.{total_fits}
 use Rattle.request.proofs.Within.{PlanWithin, plan_within, NeededWithin, needed_within}
-use Rattle.planner.specs.declared.plan.PlanAnswer.TheVariants as plan-answer
-use Rattle.planner.specs.declared.needed.NeededAnswer.TheVariants as needed-answer
-use Rattle.planner.specs.declared.needed.NeededAnswer.{NeededAnswer}
-use Rattle.planner.specs.Says.{PlanSays, needed_said, NeededSays}
-
--- an outcome by its refusal
-refused : {A : Type 0} (f : Refusal) (v : A) → is_none f ≡ false → refuses f ≡ outcome f v
-refused f v h = rw h refl
-
-given : {A : Type 0} (f : Refusal) (v : A) → is_none f ≡ true → gives v ≡ outcome f v
-given f v h = rw h refl
+use Rattle.planner.specs.Says.{PlanSays, NeededSays}
 
 -- of a request that is not refused, the planner's list is the plan
 pub accepted_plan : (q : Request) (l m n : ℕ) → is_none (plan_refusal q l m n) ≡ true → IsPlan q (plan_of q)
@@ -68,22 +62,25 @@ pub plan_found : (q : Request) (t : ℕ) (bs : List ℕ) → t ≡ total q.harve
 unfolding plan_of
 plan_found q t bs p e = rw p at e
 
-pub plan_refused : (q : Request) (l m : ℕ) (bs : List ℕ) (f : Refusal) → f ≡ plan_refusal q l m (length bs) →
-    is_none f ≡ false → PlanSays q l m bs bs (plan-answer.Refused f)
-plan_refused q l m bs f p h =
+-- refused: nothing is written
+pub plan_refused : (q : Request) (l m : ℕ) (bs : List ℕ) (e : Given) → told e ≡ plan_refusal q l m (length bs) →
+    PlanSays q l m bs bs (Err e)
+plan_refused q l m bs e p =
+    let h = told_some e in
     record {
-      answer = subst (λ (g : Refusal). refuses f ≡ outcome g tt) p (refused f tt h);
+      answer = said_refusal e tt p;
       budgets = subst (λ (g : Refusal). bs ≡ pick (is_none g) (plan_of q) bs) p (rw h refl);
       plan = λ k. absurd (false≢true (sym (subst (λ (g : Refusal). is_none g ≡ false) p h) ∙ k));
       no_plan = λ k. none_feasible q (plan_unreachable q l m (length bs) k);
     }
 
-pub plan_given : (q : Request) (l m : ℕ) (bs bs' : List ℕ) (f : Refusal) → f ≡ plan_refusal q l m (length bs) →
-    is_none f ≡ true → bs' ≡ plan_of q → PlanSays q l m bs bs' plan-answer.Planned
-plan_given q l m bs bs' f p h b =
+-- not refused: the plan is written
+pub plan_given : (q : Request) (l m : ℕ) (bs bs' : List ℕ) → none ≡ plan_refusal q l m (length bs) →
+    bs' ≡ plan_of q → PlanSays q l m bs bs' (Ok tt)
+plan_given q l m bs bs' p b =
     record {
-      answer = subst (λ (g : Refusal). gives tt ≡ outcome g tt) p (given f tt h);
-      budgets = b ∙ subst (λ (g : Refusal). plan_of q ≡ pick (is_none g) (plan_of q) bs) p (rw h refl);
+      answer = said_value tt p;
+      budgets = b ∙ ap (λ (g : Refusal). pick (is_none g) (plan_of q) bs) p;
       plan = λ k. rw b (accepted_plan q l m (length bs) k);
       no_plan = λ k. none_feasible q (plan_unreachable q l m (length bs) k);
     }
@@ -123,8 +120,8 @@ accepted_needed : (q : Request) (l m : ℕ) → is_none (needed_refusal q l m) �
 accepted_needed q l m h = needed_is q (needed_within q l m h).reach
 
 -- beside its answer, what the promise says of every request
-needed_says : (q : Request) (l m : ℕ) (r : NeededAnswer) →
-    needed_said r ≡ outcome (needed_refusal q l m) (needed_of q) → NeededSays q l m r
+needed_says : (q : Request) (l m : ℕ) (r : Result ℕ Given) →
+    said r ≡ outcome (needed_refusal q l m) (needed_of q) → NeededSays q l m r
 unfolding needed_of open_plan
 needed_says q l m r a =
     record {
@@ -136,14 +133,8 @@ needed_says q l m r a =
       any_capacity = λ c. (refl, refl);
     }
 
-pub needed_refused : (q : Request) (l m : ℕ) (f : Refusal) → f ≡ needed_refusal q l m → is_none f ≡ false →
-    NeededSays q l m (needed-answer.Refused f)
-needed_refused q l m f p h =
-    needed_says q l m (needed-answer.Refused f)
-    (subst (λ (g : Refusal). refuses f ≡ outcome g (needed_of q)) p (refused f (needed_of q) h))
+pub needed_refused : (q : Request) (l m : ℕ) (e : Given) → told e ≡ needed_refusal q l m → NeededSays q l m (Err e)
+needed_refused q l m e p = needed_says q l m (Err e) (said_refusal e (needed_of q) p)
 
-pub needed_given : (q : Request) (l m c : ℕ) (f : Refusal) → f ≡ needed_refusal q l m → is_none f ≡ true →
-    c ≡ needed_of q → NeededSays q l m (needed-answer.Capacity c)
-needed_given q l m c f p h b =
-    needed_says q l m (needed-answer.Capacity c)
-    (ap gives b ∙ subst (λ (g : Refusal). gives (needed_of q) ≡ outcome g (needed_of q)) p (given f (needed_of q) h))
+pub needed_given : (q : Request) (l m c : ℕ) → none ≡ needed_refusal q l m → c ≡ needed_of q → NeededSays q l m (Ok c)
+needed_given q l m c p b = needed_says q l m (Ok c) (ap gives b ∙ said_value (needed_of q) p)

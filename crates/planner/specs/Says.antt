@@ -1,25 +1,18 @@
 -- What planning and the needed capacity promise of every argument: the equations, then their meaning.
-use Rattle.std.specs.Prelude.{◌≡◌, true, false, List, ℕ, length}
+use Rattle.std.specs.Prelude.{◌≡◌, true, false, List, ℕ, length, Result}
+use Rattle.model.specs.declared.refusal.Refusal.{Refusal as Given}
+use Rattle.model.specs.Answer.{said}
 use Rattle.model.specs.Choice.{pick}
 use Rattle.model.specs.Request.{Request, with_capacity}
-use Rattle.model.specs.Refusals.{is_none, is_unreachable, plan_refusal, needed_refusal, Outcome, gives, refuses, outcome}
+use Rattle.model.specs.Refusals.{is_none, is_unreachable, plan_refusal, needed_refusal, outcome}
 use Rattle.model.specs.Charge.{feasible, feasible_unlimited}
 use Rattle.model.specs.Reward.{IsPlan, IsNeeded}
 use Rattle.model.specs.Plan.{plan_of, needed_of}
-use Rattle.planner.specs.declared.plan.PlanAnswer.{PlanAnswer}
-use Rattle.planner.specs.declared.plan.PlanAnswer.TheVariants as plan-answer
-use Rattle.planner.specs.declared.needed.NeededAnswer.{NeededAnswer}
-use Rattle.planner.specs.declared.needed.NeededAnswer.TheVariants as needed-answer
-
--- document 01's reading of a plan answer
-abbrev pub plan_said : PlanAnswer → Outcome (Unit {0})
-plan_said plan-answer.Planned = gives tt
-plan_said (plan-answer.Refused f) = refuses f
 
 -- planning request q with lists of l leasts and m mosts: budgets bs before and bs' after
-pub record PlanSays (q : Request) (l m : ℕ) (bs bs' : List ℕ) (r : PlanAnswer) : Type 0 where
+pub record PlanSays (q : Request) (l m : ℕ) (bs bs' : List ℕ) (r : Result (Unit {0}) Given) : Type 0 where
   -- planned, or the first of its refusals that holds
-  pub answer : plan_said r ≡ outcome (plan_refusal q l m (length bs)) tt
+  pub answer : said r ≡ outcome (plan_refusal q l m (length bs)) tt
   -- the budgets are the plan, or as they were
   pub budgets : bs' ≡ pick (is_none (plan_refusal q l m (length bs))) (plan_of q) bs
   -- if not refused they are the one feasible list that is best for every qualifying table and takes more first
@@ -27,15 +20,10 @@ pub record PlanSays (q : Request) (l m : ℕ) (bs bs' : List ℕ) (r : PlanAnswe
   -- refusals 9 and 11 mean that nothing is feasible
   pub no_plan : is_unreachable (plan_refusal q l m (length bs)) ≡ true → (cs : List ℕ) → feasible q cs ≡ false
 
--- document 01's reading of a needed-capacity answer
-abbrev pub needed_said : NeededAnswer → Outcome ℕ
-needed_said (needed-answer.Capacity c) = gives c
-needed_said (needed-answer.Refused f) = refuses f
-
 -- the needed capacity of request q, whose own capacity plays no part, with lists of l leasts and m mosts
-pub record NeededSays (q : Request) (l m : ℕ) (r : NeededAnswer) : Type 0 where
+pub record NeededSays (q : Request) (l m : ℕ) (r : Result ℕ Given) : Type 0 where
   -- the capacity, or the first of its refusals that holds
-  pub answer : needed_said r ≡ outcome (needed_refusal q l m) (needed_of q)
+  pub answer : said r ≡ outcome (needed_refusal q l m) (needed_of q)
   -- if not refused it is the least capacity that serves every qualifying table as unlimited storage does
   pub needed : is_none (needed_refusal q l m) ≡ true → IsNeeded q (needed_of q)
   -- refusals 9 and 11 mean that nothing is feasible, whatever the capacity, not even without limit

@@ -1,31 +1,22 @@
 // The capacity that a request needs.
-ghost use Rattle.std.specs.Prelude.{◌≡◌, true, length};
-ghost use Rattle.model.specs.Request.{bounded_request};
+ghost use Rattle.std.specs.Prelude.{◌≡◌, true};
+ghost use Rattle.model.specs.Answer.{asked, leasts_lent, mosts_lent};
 ghost use Rattle.model.specs.Refusals.{is_none, needed_refusal};
 ghost use Rattle.model.specs.Plan.{needed_of};
 ghost use Rattle.planner.specs.Says.{NeededSays};
 
 use leveller::plan_peak;
-use model::{Figures, Refusal};
-use numbers::greater;
-use request::{is_none, needed_refusal, sum};
-
-// The needed capacity, or the refusal of the request.
-#[derive(Clone, Copy)]
-pub enum NeededAnswer {
-    Capacity(u64),
-    Refused(Refusal),
-}
+use model::{Refusal, Request};
+use request::{check_needed, sum};
 
 // The greatest of the start, the end and what the plan without limit requires; the capacity of the figures plays no
 // part.
-pub fn needed_capacity(figures: Figures, harvest: &[u32], least: &[u32], most: &[u32]) -> u64
-    requires { is_none (needed_refusal (bounded_request figures harvest.now least.now most.now)
-        (length least.now) (length most.now)) ≡ true }
-    ensures { result ≡ needed_of (bounded_request figures harvest.now least.now
-        most.now) }
+pub fn needed_capacity(request: Request) -> u64
+    requires { is_none (needed_refusal (asked request) (leasts_lent request) (mosts_lent request)) ≡ true }
+    ensures { result ≡ needed_of (asked request.entry) }
 {
-    let all = sum(harvest);
+    let Request { figures, lists } = request;
+    let all = sum(lists.harvest);
     let start = figures.start as u64;
     let end = figures.end as u64;
     let energy = start + all;
@@ -34,21 +25,17 @@ pub fn needed_capacity(figures: Figures, harvest: &[u32], least: &[u32], most: &
         start,
         end,
         energy,
-        harvest,
-        least,
-        most,
+        lists.harvest,
+        lists.least,
+        lists.most,
     );
-    greater(start, greater(end, peak))
+    start.max(end.max(peak))
 }
 
-// Refuses the request, or gives its needed capacity.
-pub fn needed(figures: Figures, harvest: &[u32], least: &[u32], most: &[u32]) -> NeededAnswer
-    ensures { NeededSays (bounded_request figures harvest.now least.now
-        most.now) (length least.now) (length most.now) result }
+// The needed capacity of a request, unless it is refused.
+pub fn needed(request: Request) -> Result<u64, Refusal>
+    ensures { NeededSays (asked request.entry) (leasts_lent request.entry) (mosts_lent request.entry) result }
 {
-    let refusal = needed_refusal(figures, harvest, least, most);
-    if !is_none(refusal) {
-        return NeededAnswer::Refused(refusal);
-    }
-    NeededAnswer::Capacity(needed_capacity(figures, harvest, least, most))
+    check_needed(request)?;
+    Ok(needed_capacity(request))
 }

@@ -1,23 +1,19 @@
 -- Refused: the refusal that was found is the definition's. Otherwise the inner function gives the definition's
 -- capacity.
-use Rattle.std.proofs.Common.{length, sym, ◌∙◌}
-use Rattle.model.specs.Request.{bounded_request}
+use Rattle.std.proofs.Common.{rules, ◌≡◌, Err}
+use Rattle.model.specs.Answer.{asked, leasts_lent, mosts_lent}
 use Rattle.planner.proofs.Entries as law
 use Rattle.planner.proofs.needed.needed.Goals as goal
 
-pub returns-then-not-is_none : goal.returns-then-not-is_none
-returns-then-not-is_none c =
-    let a = c.args in
-    let f = c.needed_refusal-refusal in
-    law.needed_refused (bounded_request a.figures a.harvest.now a.least.now a.most.now) (length a.least.now)
-    (length a.most.now) f.result f.ensures
-    (sym c.is_none.ensures ∙ c.if-not-is_none.true)
+pub returns-in_err-check_needed : goal.returns-in_err-check_needed
+returns-in_err-check_needed c =
+    let a = c.args.request in
+    let e = c.in_err-check_needed.field-0.0 in
+    let handed_on : c.from_residual.result ≡ Err e = search rules in
+    rw handed_on (law.needed_refused (asked a) (leasts_lent a) (mosts_lent a) e c.in_err-check_needed.ensures)
 
 pub returns : goal.returns
 returns c =
-    let a = c.args in
-    let f = c.needed_refusal-refusal in
-    law.needed_given (bounded_request a.figures a.harvest.now a.least.now a.most.now) (length a.least.now)
-    (length a.most.now) c.needed_capacity.result f.result f.ensures
-    (sym c.is_none.ensures ∙ c.if-not-is_none.false)
+    let a = c.args.request in
+    law.needed_given (asked a) (leasts_lent a) (mosts_lent a) c.needed_capacity.result c.in_ok-check_needed.ensures
     c.needed_capacity.ensures

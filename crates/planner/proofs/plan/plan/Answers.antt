@@ -1,23 +1,20 @@
 -- Refused: the refusal that was found is the definition's, and nothing is written. Otherwise the inner function
 -- writes the plan.
-use Rattle.std.proofs.Common.{length, sym, ◌∙◌}
-use Rattle.model.specs.Request.{bounded_request}
+use Rattle.std.proofs.Common.{rules, ◌≡◌, Err}
+use Rattle.model.specs.Answer.{asked, leasts_lent, mosts_lent}
 use Rattle.planner.proofs.Entries as law
 use Rattle.planner.proofs.plan.plan.Goals as goal
 
-pub returns-then-not-is_none : goal.returns-then-not-is_none
-returns-then-not-is_none c =
-    let a = c.args in
-    let f = c.plan_refusal-refusal in
-    law.plan_refused (bounded_request a.figures a.harvest.now a.least.now a.most.now) (length a.least.now)
-    (length a.most.now) a.budgets.now f.result f.ensures
-    (sym c.is_none.ensures ∙ c.if-not-is_none.true)
+pub returns-in_err-check_plan : goal.returns-in_err-check_plan
+returns-in_err-check_plan c =
+    let a = c.args.request in
+    let e = c.in_err-check_plan.field-0.0 in
+    let handed_on : c.from_residual.result ≡ Err e = search rules in
+    rw handed_on
+    (law.plan_refused (asked a) (leasts_lent a) (mosts_lent a) c.args.budgets.now e c.in_err-check_plan.ensures)
 
 pub returns : goal.returns
 returns c =
-    let a = c.args in
-    let f = c.plan_refusal-refusal in
-    law.plan_given (bounded_request a.figures a.harvest.now a.least.now a.most.now) (length a.least.now)
-    (length a.most.now) a.budgets.now c.write_plan.new.budgets f.result f.ensures
-    (sym c.is_none.ensures ∙ c.if-not-is_none.false)
-    c.write_plan.ensures
+    let a = c.args.request in
+    law.plan_given (asked a) (leasts_lent a) (mosts_lent a) c.args.budgets.now c.write_plan.new.budgets
+    c.in_ok-check_plan.ensures c.write_plan.ensures
