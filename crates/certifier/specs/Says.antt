@@ -44,9 +44,6 @@ pub record StartsAt (y : ℕ) (w : Weight) : Type 0 where
   pub rich : w.low ≤ y
   pub poor : Bounded w.level → min y w.gap ≤ w.high
 
-abbrev pub ReadAt : Rule → List ℕ → List ℕ → List ℕ → ℕ → At → Type 0
-ReadAt r hs ls ms i f = Read (frames r hs ls ms) i f.inflow f.ceiling f.drain f.least f.most
-
 -- the levels are certified for the start charge y; rs is what they reserve after each frame
 abbrev pub CertifiedIn : Frames → ℕ → List ℕ → List ℕ → Type 0
 CertifiedIn fs y levels rs = Certified fs.rule.end y (frames_in fs) 0 levels rs

@@ -13,12 +13,10 @@ mod draft;
 mod forward;
 mod frame;
 mod frames;
-mod old;
 mod requirement;
 mod weight;
 
 pub use draft::Draft;
 pub use frame::{At, Rule};
 pub use frames::Frames;
-pub use old::{draw, frame_at, gap, has, inflow_at};
 pub use requirement::peak_requirement;

@@ -44,7 +44,7 @@ fn by_curve(draft: &mut Draft, marks: &mut [u32], knots: &mut [Knot]) -> bool
     )
 }
 
-// The same with a list for so many knots.
+// The same with a list for so many knots. The list is an array: memory is fixed, and there is no heap.
 pub fn by_curve_of<const KNOTS: usize>(draft: &mut Draft, marks: &mut [u32]) -> bool
     requires { KNOTS < 2 ^ 32 }
     ensures { TriedOn draft.old draft.new result }

@@ -59,7 +59,8 @@ fn lasts_at_first(frames: Frames, start: u64, level: u64) -> bool {
     true
 }
 
-// What there is to draw until the end.
+// What there is to draw until the end. Frames and start charge stay two parameters here and below: in a draft they lie
+// beside the lists that are lent with them, and the guesses of other crates take both as well.
 fn to_draw(frames: Frames, start: u64) -> u64 {
     start
         .wrapping_add(brought(frames))

@@ -15,7 +15,8 @@ use model::limits::MAX_FRAMES;
 use search::search_all;
 
 // The most frames for which short lists are taken, which take less time to clear: enough for a day of quarter hours.
-pub const DAY: usize = 128;
+// The size of a list is a constant, so each function that makes one is called at two sizes.
+const DAY: usize = 128;
 
 // How many knots the curve may have: four for each frame.
 const DAY_KNOTS: usize = 512;
@@ -49,7 +50,7 @@ fn plan_with(draft: &mut Draft, marks: &mut [u32])
     search_all(draft.frames, draft.start, draft.budgets);
 }
 
-// The same with lists for N frames.
+// The same with lists for N frames. They are arrays: memory is fixed, and there is no heap.
 fn plan_in<const N: usize>(task: Task, budgets: &mut [u32])
     requires { (length budgets.old ≡ frame_count task.frames) × (frame_count task.frames ≤ N) × (N ≤ max_frames) }
     ensures { PlannedIn task.entry.frames task.entry.start budgets.new }
@@ -65,7 +66,7 @@ fn plan_in<const N: usize>(task: Task, budgets: &mut [u32])
     plan_with(&mut draft, &mut marks);
 }
 
-// What the plan requires of the store, with a list for N frames.
+// What the plan requires of the store, with a list for N frames, an array for the same reason.
 fn peak_in<const N: usize>(task: Task) -> u64
     requires { (frame_count task.frames ≤ N) × (N ≤ max_frames) }
     ensures { PeakOf task.entry result }
