@@ -1,26 +1,32 @@
 -- The words of a request's file: how many they are, and that they are put down one behind the other.
 use mathlib.Core.Path.{◌≡◌, refl, sym, ap, ◌∙◌, subst}
 use mathlib.Core.Bool.{Bool, true, false}
-use mathlib.Core.List.{List, [], ◌∷◌, ◌++◌, append_assoc, append-nil}
-use Prim.Native.Nat.{ℕ, zero, suc, ◌+◌, ◌*◌, ◌≤◌, ◌<◌}
+use mathlib.Core.List.{List, [], ◌∷◌, ◌++◌}
+use Prim.Native.Nat.{ℕ, suc, ◌+◌, ◌*◌, ◌^◌, ◌≤◌, ◌<◌}
 use native.Mathlib.Nat.{zero-add}
-use native.Mathlib.Numerals.{add-one}
 use native.Mathlib.Omega.{arith}
 use lib.Dec.{eqb}
 use borrow.Author.Tests.{eq-eqb, ne_eqb}
-use lib.ListN.{length, get_or, take, length-append}
-use lib.Seq.{take_all}
+use lib.ListN.{length, get_or, length-append}
 use Rattle.model.specs.Choice.{pick}
 use Rattle.model.specs.Lent.{over}
 use Rattle.model.specs.Limits.{max_frames, frame_words, other_words, max_file_bytes, no_upper_end}
 use Rattle.model.specs.Request.{Bounds, Request, absent, bounds, bounds_of, first_bounds, frame_count, later_bounds}
-use Rattle.request.proofs.BadBounds.{bounds_length, bounds_nth}
 use Rattle.words.specs.Words.{word_of, bound_word}
-use Rattle.words.specs.Puts.{Puts}
+use Rattle.words.specs.Puts.{Puts, Wrote}
+use Rattle.words.specs.declared.writer.Writer.{Writer}
+use Rattle.std.specs.Prelude.{None}
+use Rattle.std.proofs.Common.{Iter, inl, inr}
+use Rattle.std.specs.declared.iter.Zip.{Zip}
+use Rattle.std.proofs.lemmas.List.{nil_from_length}
+use Rattle.std.proofs.lemmas.Iterator.{zips, empty_from_Zip}
+use Rattle.std.proofs.iter.Yields.{fronts}
+use Rattle.std.specs.Iterator.Adapters.{zip_first, zip_second}
+use Rattle.std.specs.Slice.Iter.{iter_rest}
 use Rattle.words.proofs.Lists.{over_zero}
-use Rattle.words.proofs.Bytes.{bytes_length, puts_none, puts_more, puts_length}
+use Rattle.words.proofs.Bytes.{bytes_length, puts_none, puts_more, puts_length, wrote_more}
 use Rattle.wordfile.specs.Form.{figure_count}
-use Rattle.wordfile.specs.File.{OneEach, figure_words, least_words, most_words, words_of_frame, words_of_frames}
+use Rattle.wordfile.specs.File.{BoundsFit, FramesFit, OneEach, figure_words, least_words, most_words, words_of_frame, words_of_frames}
 use Rattle.wordfile.specs.File.{file_words, file_bytes}
 
 -- ---- lists of bounds
@@ -78,6 +84,39 @@ frames_most [] bs = omega arith
 frames_most (h ∷ hs) bs =
     let r = frames_most hs (later_bounds bs) in
     omega (arith, frames_cons h hs bs, frame_most h (first_bounds bs))
+
+-- how many words frames with these bounds have, whatever their harvests
+abbrev pub bounds_size : List ℕ → List ℕ → ℕ
+bounds_size ls ms = length (words_of_frames ls (bounds_of ls ms))
+
+pub bounds_size_is :
+    (hs ls ms : List ℕ) → OneEach hs ls ms → length (words_of_frames hs (bounds_of ls ms)) ≡ bounds_size ls ms
+bounds_size_is [] [] ms e = refl
+bounds_size_is [] (l ∷ ls) ms e = absurd (omega (arith, e))
+bounds_size_is (h ∷ hs) [] ms e = absurd (omega (arith, e))
+bounds_size_is (h ∷ hs) (l ∷ ls) [] e = absurd (omega (arith, e))
+bounds_size_is (h ∷ hs) (l ∷ ls) (m ∷ ms) e =
+    let bs = bounds l m ∷ bounds_of ls ms in
+    let r = bounds_size_is hs ls ms (omega (arith, e), omega (arith, e)) in
+    omega (
+      arith,
+      frames_cons h hs bs,
+      frames_cons l ls bs,
+      frame_length h (bounds l m),
+      frame_length l (bounds l m),
+      r,
+    )
+
+-- one frame more
+pub bounds_size_more :
+    {l m : ℕ} {ls ms xs ys : List ℕ} → xs ≡ l ∷ ls → ys ≡ m ∷ ms →
+    bounds_size xs ys ≡ length (words_of_frame 0 (bounds l m)) + bounds_size ls ms
+bounds_size_more {l} {m} {ls} {ms} e f =
+    let w = bounds l m in
+    rw (e, f) (omega (arith, frames_cons l ls (w ∷ bounds_of ls ms), frame_length l w, frame_length 0 w))
+
+pub no_bounds : {ls : List ℕ} (ms : List ℕ) → ls ≡ [] → bounds_size ls ms ≡ 0
+no_bounds ms e = rw e refl
 
 -- all bounds are written
 abbrev pub AllBound : List ℕ → List Bounds → Type 0
@@ -138,78 +177,54 @@ pub puts_most :
     Puts (most_words m) at o o' r
 puts_most m n p = rw (most_some m n) p
 
--- the words of the first i frames, and of one more
-frames_suc :
-    (i : ℕ) (hs : List ℕ) (bs : List Bounds) → i < length hs → i < length bs →
-    words_of_frames (take (suc i) hs) (take (suc i) bs)
-    ≡ words_of_frames (take i hs) (take i bs) ++ words_of_frame (get_or hs i 0) (get_or bs i absent)
-frames_suc i [] bs l m = absurd (omega arith)
-frames_suc i (h ∷ hs) [] l m = absurd (omega arith)
-frames_suc zero (h ∷ hs) (b ∷ bs) l m = append-nil (words_of_frame h b)
-frames_suc (suc i) (h ∷ hs) (b ∷ bs) l m =
-    ap (λ (y : List ℕ). words_of_frame h b ++ y) (frames_suc i hs bs (omega arith) (omega arith))
-    ∙ sym
-    (append_assoc (words_of_frame h b) (words_of_frames (take i hs) (take i bs))
-    (words_of_frame (get_or hs i 0) (get_or bs i absent)))
+-- the frames left, the first of which has harvest h, least l and most m
+module _
+    {h l m : ℕ} {hs ls ms xs ys zs : List ℕ} (e : xs ≡ h ∷ hs) (f : ys ≡ l ∷ ls) (g : zs ≡ m ∷ ms) where
+  left_is : words_of_frames xs (bounds_of ys zs) ≡ words_of_frame h (bounds l m) ++ words_of_frames hs (bounds_of ls ms)
+  left_is = rw (e, f, g) refl
 
--- they have no more words than all frames
-frames_within :
-    (i : ℕ) (hs : List ℕ) (bs : List Bounds) →
-    length (words_of_frames (take i hs) (take i bs)) ≤ length (words_of_frames hs bs)
-frames_within zero hs bs = omega arith
-frames_within (suc i) [] bs = omega arith
-frames_within (suc i) (h ∷ hs) [] =
-    let r = frames_within i hs [] in
-    omega (arith, frames_cons h hs [], frames_cons h (take i hs) [], ap length (nothing i hs))
-  where
-    nothing :
-        (i : ℕ) (hs : List ℕ) → words_of_frames (take i hs) (take {A = Bounds} i []) ≡ words_of_frames (take i hs) []
-    nothing zero hs = refl
-    nothing (suc i) hs = refl
-frames_within (suc i) (h ∷ hs) (b ∷ bs) =
-    let r = frames_within i hs bs in
-    omega (arith, frames_cons h hs (b ∷ bs), frames_cons h (take i hs) (b ∷ take i bs))
+  pub left_fits : FramesFit xs (bounds_of ys zs) → (h < 2 ^ 30) × BoundsFit (bounds l m) × FramesFit hs (bounds_of ls ms)
+  left_fits x =
+      let y : FramesFit (h ∷ hs) (bounds l m ∷ bounds_of ls ms) = rw (e, f, g) at x in
+      (y.0 0, y.1 0, (λ i. y.0 (suc i), λ i. y.1 (suc i), omega (arith, y.2)))
 
-module _ (hs ls ms : List ℕ) (each : OneEach hs ls ms) (i : ℕ) (l : i < length hs) where
-  -- the words of frame i
-  abbrev frame : List ℕ
-  frame = words_of_frame (get_or hs i 0) (bounds (get_or ls i 0) (get_or ms i 0))
+  pub left_length :
+      length (words_of_frames xs (bounds_of ys zs))
+      ≡ length (words_of_frame h (bounds l m)) + length (words_of_frames hs (bounds_of ls ms))
+  left_length =
+      ap length left_is ∙ length-append (words_of_frame h (bounds l m)) (words_of_frames hs (bounds_of ls ms))
 
-  pub frames_more :
-      words_of_frames (take (i + 1) hs) (take (i + 1) (bounds_of ls ms))
-      ≡ words_of_frames (take i hs) (take i (bounds_of ls ms)) ++ frame
-  frames_more =
-      let n = bounds_length ls ms (omega (arith, each)) in
-      rw (add-one i)
-      (frames_suc i hs (bounds_of ls ms) l (omega (arith, each))
-      ∙ ap (λ (w : Bounds). words_of_frames (take i hs) (take i (bounds_of ls ms)) ++ words_of_frame (get_or hs i 0) w)
-      (bounds_nth i ls ms (omega (arith, each)) (omega (arith, each))))
+  -- its words are put, and then those of the frames behind it
+  pub left_wrote :
+      {a b c : Writer} → a.at + 4 * length (words_of_frames xs (bounds_of ys zs)) ≤ length a.out.now →
+      Wrote (words_of_frame h (bounds l m)) a b → Wrote (words_of_frames hs (bounds_of ls ms)) b c →
+      Wrote (words_of_frames xs (bounds_of ys zs)) a c
+  left_wrote {a} {b} {c} room p q =
+      let n = bytes_length (words_of_frame h (bounds l m)) in
+      subst (λ (ws : List ℕ). Wrote ws a c) (sym left_is) (wrote_more p (omega (arith, n, left_length, room)) q)
 
-  pub frames_size_more :
-      length (words_of_frames (take (i + 1) hs) (take (i + 1) (bounds_of ls ms)))
-      ≡ length (words_of_frames (take i hs) (take i (bounds_of ls ms))) + length frame
-  frames_size_more = ap length frames_more ∙ length-append (words_of_frames (take i hs) (take i (bounds_of ls ms))) frame
+  pub left_room :
+      {a b : Writer} → a.at + 4 * length (words_of_frames xs (bounds_of ys zs)) ≤ length a.out.now →
+      Wrote (words_of_frame h (bounds l m)) a b →
+      b.at + 4 * length (words_of_frames hs (bounds_of ls ms)) ≤ length b.out.now
+  left_room {a} {b} room p =
+      let n = bytes_length (words_of_frame h (bounds l m)) in
+      let k = puts_length p.puts (omega (arith, n, left_length, room)) in
+      omega (arith, n, k, left_length, room, p.puts.behind)
 
-  -- they have room
-  pub frame_room_lem :
-      length (words_of_frames (take i hs) (take i (bounds_of ls ms))) + length frame
-      ≤ length (words_of_frames hs (bounds_of ls ms))
-  frame_room_lem = omega (arith, frames_size_more, frames_within (i + 1) hs (bounds_of ls ms))
+-- no frame left
+pub wrote_none : {xs : List ℕ} (bs : List Bounds) {a : Writer} → xs ≡ [] → Wrote (words_of_frames xs bs) a a
+wrote_none bs {a} e =
+    subst (λ (hs : List ℕ). Wrote (words_of_frames hs bs) a a) (sym e)
+    record { puts = puts_none a.at a.out.now; same = refl }
 
-  pub puts_frame :
-      {o p p' : List ℕ} {from at at' : ℕ} → from + 4 * length (words_of_frames hs (bounds_of ls ms)) ≤ length o →
-      Puts (words_of_frames (take i hs) (take i (bounds_of ls ms))) from o p at → Puts frame at p p' at' →
-      Puts (words_of_frames (take (i + 1) hs) (take (i + 1) (bounds_of ls ms))) from o p' at'
-  puts_frame {o} {p} {p'} {from} {at} {at'} room a b =
-      let n = bytes_length (words_of_frames (take i hs) (take i (bounds_of ls ms))) in
-      subst (λ (ws : List ℕ). Puts ws from o p' at') (sym frames_more)
-      (puts_more a (omega (arith, n, frame_room_lem)) b)
-
--- all of them
-pub frames_all :
-    (hs : List ℕ) (bs : List Bounds) (i : ℕ) → length hs ≤ i → length bs ≤ i →
-    words_of_frames (take i hs) (take i bs) ≡ words_of_frames hs bs
-frames_all hs bs i l m = rw (take_all i hs l, take_all i bs m)
+-- no frame is left where a zip of three lists of one length ends
+pub zip_ended :
+    (s t : Zip (Zip (Iter ℕ) (Iter ℕ)) (Iter ℕ)) → zips (zips fronts fronts) fronts s None t →
+    OneEach (iter_rest (zip_first (zip_first s))) (iter_rest (zip_second (zip_first s))) (iter_rest (zip_second s)) →
+    iter_rest (zip_first (zip_first s)) ≡ []
+zip_ended s t (inl a) each = (empty_from_Zip (zip_first s) a.0 None refl a.1 (sym each.0)).0
+zip_ended s t (inr b) each = nil_from_length (iter_rest (zip_first (zip_first s))) (sym each.1 ∙ b.1.0)
 
 -- the figures, the frames and the end word: the file at the front, and the place behind its last word
 pub puts_file :

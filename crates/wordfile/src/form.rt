@@ -27,7 +27,8 @@ pub struct State {
     pub mark: u32,
 }
 
-// What a word does to the machine: it goes on, it ends, or the word breaks the form.
+// What a word does to the machine: it goes on, it ends, or the word breaks the form. Three cases, which no `Option` or
+// `Result` has.
 #[derive(Clone, Copy)]
 pub enum Step {
     On(State),

@@ -23,7 +23,8 @@ pub fn frame_size(least: u32, most: u32) -> usize
     1 + usize::from(least != 0) + usize::from(most != NO_UPPER_END)
 }
 
-// Puts a bound's word, unless the bound is absent.
+// Puts a bound's word, unless the bound is absent. Room is asked of each function that puts, and is no field of the
+// writer: each asks it for other words, and a `&mut` has no ghost field beside it.
 fn put_unless(writer: &mut Writer, absent: bool, bound: Word)
     requires fits { absent ≡ false → Fits bound }
     requires room { writer.old.at + 4 * length (unless absent (spelt bound)) ≤ length writer.old.out.now }

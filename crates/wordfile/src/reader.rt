@@ -59,7 +59,8 @@ fn check_read(file: &[u8], room: &Room) -> Result<(), Refusal>
     check_room(closed.frames, room)
 }
 
-// The value of word i of a file.
+// The value of word i of a file. That there is such a word is asked here, of `frame_at` and of `nth`, and not by a type:
+// a place as a value would have to hold its file, and the loop over places knows it anyway.
 fn value_at(file: &[u8], i: usize) -> u32
     requires { i < length file.now / 4 }
     ensures { result ≡ value_in (get_or (words_of file.now) i 0) }
@@ -115,6 +116,7 @@ fn fill(file: &[u8], room: &mut Room) -> usize
     ensures same { SameRoom room.old room.new }
     ensures count { result ≡ length (harvests_in (words_of file.now)) }
 {
+    // Counted by hand: the place moves at a harvest word alone, so that no iterator over words or lists goes with it.
     let mut frames: usize = 0;
     for i in 0..file.len() / 4 {
         match Word::from(nth(file, i)) {
@@ -146,7 +148,9 @@ fn figures_in(file: &[u8]) -> Figures
     }
 }
 
-// Reads a file: harvests, leasts and mosts go to the front of the lent lists, the other figures into the answer.
+// Reads a file: harvests, leasts and mosts go to the front of the lent lists, the other figures into the answer. The
+// lists come apart, as C lends them: what stands in them after the call has a name here, where a `Room` that is handed
+// over would leave it without one (`room.exit.1.0.now`).
 pub fn read(
     file: &[u8],
     harvest: &mut [u32],

@@ -35,8 +35,8 @@ impl Whole<'_> {
     {
         let lists = self.request.lists;
         let mut size: usize = 0;
-        for i in 0..lists.harvest.len() {
-            size += frame_size(lists.least[i], lists.most[i]);
+        for (least, most) in lists.least.iter().zip(lists.most) {
+            size += frame_size(*least, *most);
         }
         size
     }
@@ -67,11 +67,11 @@ impl Whole<'_> {
             writer.new }
     {
         let lists = self.request.lists;
-        for i in 0..lists.harvest.len() {
+        for ((harvest, least), most) in lists.harvest.iter().zip(lists.least).zip(lists.most) {
             let frame = Frame {
-                harvest: lists.harvest[i],
-                least: lists.least[i],
-                most: lists.most[i],
+                harvest: *harvest,
+                least: *least,
+                most: *most,
             };
             put_frame(writer, frame);
         }

@@ -1,36 +1,28 @@
 -- A frame more has its words more, three at most; behind the last frame all are counted.
-use Rattle.std.proofs.Common.{length, get_or, ap, ◌∙◌, arith}
-use Rattle.model.specs.Request.{bounds, bounds_of}
-use Rattle.request.proofs.BadBounds.{bounds_length}
+use Rattle.std.proofs.Common.{length, sym, refl, ap, None, arith}
+use Rattle.std.proofs.lemmas.Iterator.{empty_from_Zip}
+use Rattle.model.specs.Request.{bounds}
 use Rattle.wordfile.proofs.Put as law
 use Rattle.wordfile.proofs.writer.Whole.frames_size.Goals as goal
 
-pub loop-i-preserved : goal.loop-i-preserved
-loop-i-preserved c =
-    let l = c.loop-i in
-    let g = c.args.self.request.lists in
-    let h = get_or g.harvest.now l.i 0 in
-    let w = bounds (get_or g.least.now l.i 0) (get_or g.most.now l.i 0) in
-    let more = law.frames_size_more g.harvest.now g.least.now g.most.now c.args.self.one_each l.i c.loop-i-test.true in
+pub loop-least-preserved : goal.loop-least-preserved
+loop-least-preserved c =
+    let v = c.loop-least.invariant in
+    let s = c.in-Some.ensures.steps in
+    let w = bounds c.in-Some.least.now c.in-Some.most.now in
+    let e = law.bounds_size_more s.0 s.1 in
     record {
-      small = omega (arith, c.frame_size-size.ensures, law.frame_most 0 w, l.invariant.small);
-      counted =
-          omega (
-            arith,
-            more,
-            law.frame_length h w,
-            law.frame_length 0 w,
-            c.frame_size-size.ensures,
-            l.invariant.counted,
-          );
+      can = (tt, tt);
+      ends = tt;
+      lengths = omega (arith, ap length s.0, ap length s.1, v.lengths);
+      small = omega (arith, ap length s.0, c.frame_size-size.ensures, law.frame_most 0 w, v.small);
+      counted = omega (arith, e, c.frame_size-size.ensures, v.counted);
     }
 
 pub returns-clause-is : goal.returns-clause-is
 returns-clause-is c =
-    let l = c.loop-i in
-    let g = c.args.self.request.lists in
-    let bs = bounds_of g.least.now g.most.now in
-    let n = bounds_length g.least.now g.most.now (omega (arith, c.args.self.one_each)) in
-    let all = law.frames_all g.harvest.now bs l.i c.loop-i-test.false
-    (omega (arith, n, c.loop-i-test.false, c.args.self.one_each)) in
-    l.invariant.counted ∙ ap length all
+    let v = c.loop-least.invariant in
+    let lists = c.args.self.request.lists in
+    let none = empty_from_Zip c.loop-least.least-iterator c.next.new.self None refl c.in-None.ensures.steps (sym v.lengths) in
+    let all = law.bounds_size_is lists.harvest.now lists.least.now lists.most.now c.args.self.one_each in
+    omega (arith, v.counted, all, law.no_bounds c.loop-least.least-iterator.b.rest.now none.0)

@@ -1,15 +1,24 @@
--- After i frames their words are in the list, and the place is behind them: each frame is put behind those before it.
-use Rattle.std.proofs.Common.{length, take, ◌≡◌}
+-- What puts the words of the frames left puts those of all.
+use Rattle.std.proofs.Common.{length, ◌+◌, ◌*◌, ◌≡◌, ◌≤◌}
 use Rattle.model.specs.Request.{bounds_of}
 use Rattle.words.specs.Puts.{Wrote}
-use Rattle.wordfile.specs.File.{words_of_frames}
+use Rattle.words.specs.declared.writer.Writer.{Writer}
+use Rattle.wordfile.specs.File.{FramesFit, words_of_frames}
 use Rattle.wordfile.proofs.writer.Whole.put_frames.Given as goal
 
-abbrev pub invariant-loop-i : goal.invariant-loop-i
-invariant-loop-i l =
+abbrev pub invariant-loop-harvest : goal.invariant-loop-harvest
+invariant-loop-harvest l =
+    let hs = l.harvest-iterator.a.a.rest.now in
+    let ls = l.harvest-iterator.a.b.rest.now in
+    let ms = l.harvest-iterator.b.rest.now in
     let lists = l.self.request.lists in record {
-      as_long : length l.writer.out.now ≡ length l.initial.writer.out.now;
-      wrote :
-          Wrote (words_of_frames (take l.i lists.harvest.now) (take l.i (bounds_of lists.least.now lists.most.now)))
-          l.initial.writer l.writer;
+      can : (goal.iterator-loop-harvest).can_next l.harvest-iterator;
+      ends : (goal.iterator-loop-harvest).is_finite l.harvest-iterator;
+      leasts : length ls ≡ length hs;
+      mosts : length ms ≡ length hs;
+      fits : FramesFit hs (bounds_of ls ms);
+      room : l.writer.at + 4 * length (words_of_frames hs (bounds_of ls ms)) ≤ length l.writer.out.now;
+      rest :
+          (w : Writer) → Wrote (words_of_frames hs (bounds_of ls ms)) l.writer w →
+          Wrote (words_of_frames lists.harvest.now (bounds_of lists.least.now lists.most.now)) l.initial.writer w;
     }
