@@ -13,7 +13,7 @@ use Rattle.model.specs.Refusals.{Refusal, none}
 use Rattle.model.specs.Choice.{pick}
 use Rattle.model.specs.declared.Figures.{Figures}
 use Rattle.model.specs.Request.{Request, bounded_request, leasts, total}
-use Rattle.model.specs.Refusals.{is_none, plan_refusal, needed_refusal, gives, refuses, outcome}
+use Rattle.model.specs.Refusals.{is_none, plan_refusal, needed_refusal, gives, outcome}
 use Rattle.model.specs.Reward.{IsPlan, IsNeeded}
 use Rattle.model.specs.Frames.{plan, peak}
 use Rattle.model.specs.Plan.{frames_of, plan_of, open_plan, needed_of}

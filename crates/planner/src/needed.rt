@@ -5,7 +5,7 @@ ghost use Rattle.model.specs.Refusals.{is_none, needed_refusal};
 ghost use Rattle.model.specs.Plan.{needed_of};
 ghost use Rattle.planner.specs.Says.{NeededSays};
 
-use leveller::plan_peak;
+use leveller::{Rule, Task};
 use model::{Refusal, Request};
 use request::{check_needed, sum};
 
@@ -20,15 +20,12 @@ pub fn needed_capacity(request: Request) -> u64
     let start = figures.start as u64;
     let end = figures.end as u64;
     let energy = start + all;
-    let peak = plan_peak(
-        start + (end + all),
-        start,
+    let rule = Rule {
+        capacity: start + (end + all),
         end,
         energy,
-        lists.harvest,
-        lists.least,
-        lists.most,
-    );
+    };
+    let peak = Task::of(rule, lists, start).peak();
     start.max(end.max(peak))
 }
 

@@ -5,7 +5,7 @@ ghost use Rattle.model.specs.Refusals.{is_none, plan_refusal};
 ghost use Rattle.model.specs.Plan.{plan_of};
 ghost use Rattle.planner.specs.Says.{PlanSays};
 
-use leveller::plan_into;
+use leveller::{Rule, Task};
 use model::{Refusal, Request};
 use request::{check_plan, sum};
 
@@ -17,17 +17,12 @@ pub fn write_plan(request: Request, budgets: &mut [u32])
 {
     let Request { figures, lists } = request;
     let start = figures.start as u64;
-    let energy = start + sum(lists.harvest);
-    plan_into(
-        figures.capacity as u64,
-        start,
-        figures.end as u64,
-        energy,
-        lists.harvest,
-        lists.least,
-        lists.most,
-        budgets,
-    );
+    let rule = Rule {
+        capacity: figures.capacity as u64,
+        end: figures.end as u64,
+        energy: start + sum(lists.harvest),
+    };
+    Task::of(rule, lists, start).plan_into(budgets);
 }
 
 // Writes the plan of a request; one that is refused leaves the budgets as they are.

@@ -5,8 +5,8 @@ use Rattle.request.proofs.Within.{needed_within}
 use Rattle.planner.proofs.Entries as law
 use Rattle.planner.proofs.needed.needed_capacity.Goals as goal
 
-pub plan_peak-peak-requires : goal.plan_peak-peak-requires
-plan_peak-peak-requires c =
+pub of-requires : goal.of-requires
+of-requires c =
     let a = c.args.request in
     let l = a.lists in
     law.needed_ready a.figures l.harvest.now l.least.now l.most.now c.sum-all.result
@@ -17,4 +17,5 @@ returns c =
     let a = c.args.request in
     c.max-2.ensures
     ∙ (ap (max a.figures.start) c.max.ensures
-    ∙ law.needed_found (asked a) c.sum-all.result c.plan_peak-peak.result c.sum-all.ensures.is c.plan_peak-peak.ensures)
+    ∙ law.needed_found (asked a) c.sum-all.result c.peak-peak.result c.sum-all.ensures.is
+    (rw (c.of.ensures.0, c.of.ensures.1, c.of.ensures.2) at c.peak-peak.ensures))

@@ -6,16 +6,21 @@ use Rattle.request.proofs.Within.{plan_within}
 use Rattle.planner.proofs.Entries as law
 use Rattle.planner.proofs.plan.write_plan.Goals as goal
 
-pub plan_into-requires : goal.plan_into-requires
-plan_into-requires c =
+pub of-requires : goal.of-requires
+of-requires c =
     let a = c.args.request in
     let l = a.lists in
     let n = length c.args.budgets.now in
-    let within = plan_within (asked a) (leasts_lent a) (mosts_lent a) n c.requires in (
-      law.plan_ready a.figures l.harvest.now l.least.now l.most.now n c.sum.result within c.sum.ensures.is,
-      within.budgets,
-    )
+    let within = plan_within (asked a) (leasts_lent a) (mosts_lent a) n c.requires in
+    law.plan_ready a.figures l.harvest.now l.least.now l.most.now n c.sum.result within c.sum.ensures.is
+
+pub plan_into-requires : goal.plan_into-requires
+plan_into-requires c =
+    let a = c.args.request in
+    let within = plan_within (asked a) (leasts_lent a) (mosts_lent a) (length c.args.budgets.now) c.requires in
+    rw c.of.ensures.1 within.budgets
 
 pub returns : goal.returns
 returns c =
-    law.plan_found (asked c.args.request) c.sum.result c.plan_into.new.budgets c.sum.ensures.is c.plan_into.ensures
+    law.plan_found (asked c.args.request) c.sum.result c.plan_into.new.budgets c.sum.ensures.is
+    (rw (c.of.ensures.0, c.of.ensures.1, c.of.ensures.2) at c.plan_into.ensures)
