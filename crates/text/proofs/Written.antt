@@ -120,9 +120,6 @@ adds_then a b = record { same_list = b.same_list ∙ a.same_list; puts = puts_th
 pub record Leaves (x : List ℕ) (p : Page) (y : List ℕ) (q : Page) : Type 0 where
   pub rest : (r : Page) → Adds y q r → Adds x p r
 
-pub leaves_all : (x : List ℕ) (p : Page) → Leaves x p x p
-leaves_all x p = record { rest = λ r a. a }
-
 module _ {x y : List ℕ} {p q : Page} where
   -- its next piece written
   pub leaves_less : {a z : List ℕ} {r : Page} → Leaves x p y q → y ≡ a ++ z → Adds a q r → Leaves x p z r
