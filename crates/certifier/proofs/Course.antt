@@ -6,13 +6,13 @@ use mathlib.Core.List.{List, [], ◌∷◌}
 use Prim.Native.Nat.{ℕ, ◌+◌, ◌-◌, ◌≤◌, ◌<◌, min}
 use native.Mathlib.Omega.{arith}
 use lib.ListN.{length, drop, set, get_or}
+use Rattle.std.proofs.lemmas.List.{drop_more, drop-set-lt}
 use Rattle.model.specs.Frames.{Frame, reserve}
 use Rattle.model.proofs.Order.{le_or_lt}
 use Rattle.model.proofs.Reserve.{reserve_grows}
 use Rattle.certifier.specs.Frame.{frame, Read}
 use Rattle.certifier.specs.Course.{need, Bounded, Steady, Turn, Turns, Course, CourseFrom}
 use Rattle.certifier.specs.Course.{Within, Starts, StartsFrom, Certified}
-use Rattle.certifier.proofs.Lists.{drop_next, drop_past}
 
 -- the reserve before a frame, by what the frame needs
 pub reserve_frame : (e l : ℕ) (f : Frame) (fs : List Frame) →
@@ -73,8 +73,8 @@ module _ {e y : ℕ} {fs : List Frame} {i : ℕ} (ls rs : List ℕ) where
       First e y fs i ls rs (frame h m d lo hi)
   unfolding CourseFrom StartsFrom
   first read p q c =
-      let s = rw (read.is, drop_next ls i p) at c.starts in
-      let k = rw (read.is, drop_next ls i p, drop_next rs i q) at c.course in
+      let s = rw (read.is, drop_more ls i 0 p) at c.starts in
+      let k = rw (read.is, drop_more ls i 0 p, drop_more rs i 0 q) at c.course in
       record { within = s; after = k.0.after; turns = k.1; course = k.2 }
 
   -- and that it holds again at the next frame, from a charge between the reserves, when a budget has been written
@@ -86,8 +86,8 @@ module _ {e y : ℕ} {fs : List Frame} {i : ℕ} (ls rs : List ℕ) where
   onward b z c low high =
       record {
         starts =
-            rw (drop_past ls i b)
+            rw (drop-set-lt (i + 1) ls i b (omega arith))
             (starts_on e (get_or ls i 0) z (drop (i + 1) fs) (drop (i + 1) ls) (drop (i + 1) rs) c.turns
             c.course low high);
-        course = rw (drop_past ls i b) c.course;
+        course = rw (drop-set-lt (i + 1) ls i b (omega arith)) c.course;
       }

@@ -1,5 +1,4 @@
 -- The laws behind the functions' proofs.
-pub mod Lists
 pub mod Reserve
 pub mod Reading
 pub mod Course

@@ -3,9 +3,9 @@ use mathlib.Core.Path.{◌≡◌, refl}
 use mathlib.Core.List.{List}
 use Prim.Native.Nat.{ℕ, ◌+◌, ◌-◌, ◌≤◌, ◌<◌, max}
 use lib.ListN.{length, drop, get_or, drop_of_length-le}
+use Rattle.std.proofs.lemmas.List.{drop_more}
 use Rattle.model.specs.Frames.{Frame, requirement, peak}
 use Rattle.certifier.specs.Frame.{Read}
-use Rattle.certifier.proofs.Lists.{drop_next}
 
 -- before frame k: what the rest requires there, and the greatest that it requires after any frame
 pub record Required (e : ℕ) (fs : List Frame) (bs : List ℕ) (k charge top : ℕ) : Type 0 where
@@ -26,4 +26,4 @@ pub requires_on : {e : ℕ} {fs : List Frame} (bs : List ℕ) {k charge top h m 
 unfolding requirement peak
 requires_on bs {k} read p q s =
     rw (q, s.charge_is, s.top_is)
-    (record { charge_is = rw (read.is, drop_next bs k p) refl; top_is = rw (read.is, drop_next bs k p) refl })
+    (record { charge_is = rw (read.is, drop_more bs k 0 p) refl; top_is = rw (read.is, drop_more bs k 0 p) refl })

@@ -6,6 +6,7 @@ use Prim.Native.Nat.{ℕ, ◌+◌, ◌≤◌, ◌<◌, min}
 use native.Mathlib.Nat.{le_refl, min-le_left}
 use native.Mathlib.Omega.{arith}
 use lib.ListN.{length, drop, set, get_or, drop_of_length-le}
+use Rattle.std.proofs.lemmas.List.{drop_more, drop-set}
 use Rattle.model.specs.Frames.{Frame, reserve}
 use Rattle.model.proofs.Order.{le_or_lt}
 use Rattle.model.proofs.Reserve.{reserve_grows}
@@ -14,7 +15,6 @@ use Rattle.certifier.specs.declared.weight.Weight.{Weight}
 use Rattle.certifier.specs.Frame.{frame, Read}
 use Rattle.certifier.specs.Course.{Bounded, Steady, Turn, Turns, CourseFrom, StartsFrom}
 use Rattle.certifier.specs.Says.{TurnedAt, WeighedAt}
-use Rattle.certifier.proofs.Lists.{drop_next, drop_put}
 use Rattle.certifier.proofs.Course.{reserve_frame, enters}
 
 -- before frame k: the reserves of its level and of one level more, a charge that no reserve is above, when a level
@@ -131,9 +131,9 @@ module _ {e : ℕ} {fs : List Frame} {k : ℕ} {ls : List ℕ} (f : At) (l : ℕ
         low_is = rw read.is weighed_low;
         high_is = rw read.is weighed_high;
         under = λ x. rw read.is (weighed_under x);
-        turns = λ x low high. rw (read.is, drop_next ls k here, sym level) (weighed_turn x low high);
+        turns = λ x low high. rw (read.is, drop_more ls k 0 here, sym level) (weighed_turn x low high);
         starts = λ y low high.
-            rw (read.is, drop_next ls k here, sym level)
+            rw (read.is, drop_more ls k 0 here, sym level)
             (enters y weighed_steady (rw (sym weighed_low) low)
             (λ b. rw (sym weighed.gap_is, sym weighed_high) (high b)));
       })
@@ -143,7 +143,7 @@ module _ {e : ℕ} {fs : List Frame} {k : ℕ} {ls : List ℕ} (f : At) (l : ℕ
       CourseFrom e fs k ls (set rs k v.after)
   unfolding CourseFrom
   weighed_course rs p c =
-      rw (read.is, drop_next ls k here, sym level, drop_put rs k v.after p)
+      rw (read.is, drop_more ls k 0 here, sym level, drop-set rs k v.after p)
       (weighed_steady, turned_turns w holds l weighed.turned, c)
 
   -- all that the loop keeps

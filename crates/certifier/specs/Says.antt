@@ -1,7 +1,6 @@
 -- What the functions promise, in terms of their structs.
 use Rattle.std.specs.Prelude.{◌≡◌, List, ℕ, ◌+◌, ◌-◌, ◌≤◌, ◌<◌, min, length}
 use Rattle.model.specs.Frames.{Frame}
-use Rattle.certifier.specs.declared.frame.Rule.{Rule}
 use Rattle.certifier.specs.declared.frame.At.{At}
 use Rattle.certifier.specs.declared.weight.Weight.{Weight}
 use Rattle.certifier.specs.Frame.{drawn, Read}
