@@ -10,7 +10,7 @@ use native.Mathlib.Omega.{arith}
 use lib.Dec.{eqb}
 use borrow.Author.Tests.{eq-eqb, ne_eqb}
 use lib.ListN.{length, get_or, set, drop, length-drop, length-set, drop_of_length-le}
-use lib.Seq.{drop-cons, drop-drop, get_or-drop, paste, paste-zero, paste-suc}
+use lib.Seq.{drop-cons, drop-drop, get_or-drop, paste, paste-suc}
 use Rattle.model.specs.Choice.{pick}
 use Rattle.model.specs.Lent.{over}
 use Rattle.words.specs.Words.{kind_of, mark_of, amount_in}
@@ -35,32 +35,6 @@ past_is w ws e = rw (eq-eqb (mark_of w) 4 e)
 
 pub past_not : (w : ℕ) (ws : List ℕ) → (mark_of w ≡ 4 → ⊥) → past_least (w ∷ ws) ≡ w ∷ ws
 past_not w ws e = rw (ne_eqb (mark_of w) 4 e)
-
--- by the tests that the code makes of the word at place i
-module _ (ws : List ℕ) (i : ℕ) where
-  pub bound_over : (m d : ℕ) → length ws ≤ i → d ≡ bound_at m d (drop i ws)
-  bound_over m d l = sym (ap (bound_at m d) (drop_of_length-le ws {i = i} l))
-
-  pub past_over : length ws ≤ i → drop i ws ≡ past_least (drop i ws)
-  past_over l = let e = drop_of_length-le ws {i = i} l in rw e refl
-
-  module _ (l : i < length ws) {w k : ℕ} (e : w ≡ get_or ws i 0) (mark : k ≡ mark_of w) where
-    pub bound_here : (m d a : ℕ) → k ≡ m → a ≡ amount_in w → a ≡ bound_at m d (drop i ws)
-    bound_here m d a z v =
-        v
-        ∙ (sym (is_bound m d w (drop (i + 1) ws) (sym mark ∙ z)) ∙ sym (ap (bound_at m d) (front ws i l e)))
-
-    pub bound_other : (m d : ℕ) → (k ≡ m → ⊥) → d ≡ bound_at m d (drop i ws)
-    bound_other m d z =
-        sym (ap (bound_at m d) (front ws i l e) ∙ no_bound m d w (drop (i + 1) ws) (λ y. z (mark ∙ y)))
-
-    pub past_here : k ≡ 4 → drop (i + 1) ws ≡ past_least (drop i ws)
-    past_here z = sym (ap past_least (front ws i l e) ∙ past_is w (drop (i + 1) ws) (sym mark ∙ z))
-
-    pub past_other : (k ≡ 4 → ⊥) → drop i ws ≡ past_least (drop i ws)
-    past_other z =
-        let f = front ws i l e in
-        f ∙ sym (ap past_least f ∙ past_not w (drop (i + 1) ws) (λ y. z (mark ∙ y)))
 
 -- ---- what a word adds
 
@@ -101,10 +75,6 @@ pub record Filled (says : ℕ → List ℕ → ℕ) (ws h₀ h : List ℕ) (i k 
   pub size : length h ≡ length h₀
   pub list : h ≡ paste h₀ 0 (each_frame says ws) k
 
-pub filled_start : (says : ℕ → List ℕ → ℕ) (ws h : List ℕ) → Filled says ws h h 0 0
-filled_start says ws h =
-    record { rest = refl; within = omega arith; size = refl; list = paste-zero h 0 (each_frame says ws) }
-
 -- the whole list is filled
 pub record Full (says : ℕ → List ℕ → ℕ) (ws h₀ h : List ℕ) (k : ℕ) : Type 0 where
   pub list : h ≡ over (each_frame says ws) h₀
@@ -125,9 +95,6 @@ module _ {says : ℕ → List ℕ → ℕ} {ws h₀ h : List ℕ} {i k : ℕ} (f
   module _ (l : i < length ws) {w n : ℕ} (e : w ≡ get_or ws i 0) (kind : n ≡ kind_of w) where
     here : each_frame says (drop i ws) ≡ each_frame says (w ∷ drop (i + 1) ws)
     here = ap (each_frame says) (front ws i l e)
-
-    pub filled_end : n ≡ 3 → Full says ws h₀ h k
-    filled_end z = full (here ∙ found_end says w (drop (i + 1) ws) (sym kind ∙ z))
 
     pub filled_none : (n ≡ 3 → ⊥) → (n ≡ 1 → ⊥) → Filled says ws h₀ h (i + 1) k
     filled_none a b =

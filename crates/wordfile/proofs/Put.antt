@@ -2,12 +2,12 @@
 use mathlib.Core.Path.{◌≡◌, refl, sym, ap, ◌∙◌, subst}
 use mathlib.Core.Bool.{Bool, true, false}
 use mathlib.Core.List.{List, [], ◌∷◌, ◌++◌}
-use Prim.Native.Nat.{ℕ, suc, ◌+◌, ◌*◌, ◌^◌, ◌≤◌, ◌<◌}
+use Prim.Native.Nat.{ℕ, zero, suc, ◌+◌, ◌*◌, ◌^◌, ◌≤◌, ◌<◌}
 use native.Mathlib.Nat.{zero-add}
 use native.Mathlib.Omega.{arith}
 use lib.Dec.{eqb}
 use borrow.Author.Tests.{eq-eqb, ne_eqb}
-use lib.ListN.{length, get_or, length-append}
+use lib.ListN.{length, get_or, take, length-append}
 use Rattle.model.specs.Choice.{pick}
 use Rattle.model.specs.Lent.{over}
 use Rattle.model.specs.Limits.{max_frames, frame_words, other_words, max_file_bytes, no_upper_end}
@@ -160,23 +160,6 @@ longest_file q e a = omega (arith, file_length q, frames_full q.harvest q.bounds
 
 -- ---- put down word by word
 
--- a bound that is written, and one that is not
-pub puts_no_least : (l : ℕ) (at : ℕ) (o : List ℕ) → l ≡ 0 → Puts (least_words l) at o o at
-puts_no_least l at o e = rw (least_none l e) (puts_none at o)
-
-pub puts_least :
-    (l : ℕ) {at r : ℕ} {o o' : List ℕ} → (l ≡ 0 → ⊥) → Puts (bound_word 4 l ∷ []) at o o' r →
-    Puts (least_words l) at o o' r
-puts_least l n p = rw (least_some l n) p
-
-pub puts_no_most : (m : ℕ) (at : ℕ) (o : List ℕ) → m ≡ no_upper_end → Puts (most_words m) at o o at
-puts_no_most m at o e = rw (most_none m e) (puts_none at o)
-
-pub puts_most :
-    (m : ℕ) {at r : ℕ} {o o' : List ℕ} → (m ≡ no_upper_end → ⊥) → Puts (bound_word 5 m ∷ []) at o o' r →
-    Puts (most_words m) at o o' r
-puts_most m n p = rw (most_some m n) p
-
 -- the frames left, the first of which has harvest h, least l and most m
 module _
     {h l m : ℕ} {hs ls ms xs ys zs : List ℕ} (e : xs ≡ h ∷ hs) (f : ys ≡ l ∷ ls) (g : zs ≡ m ∷ ms) where
@@ -211,6 +194,21 @@ module _
       let n = bytes_length (words_of_frame h (bounds l m)) in
       let k = puts_length p.puts (omega (arith, n, left_length, room)) in
       omega (arith, n, k, left_length, room, p.puts.behind)
+
+-- the words of a frame have room with those before it
+pub frame_room_lem :
+    (hs ls ms : List ℕ) → OneEach hs ls ms → (i : ℕ) → i < length hs →
+    length (words_of_frames (take i hs) (take i (bounds_of ls ms)))
+    + length (words_of_frame (get_or hs i 0) (bounds (get_or ls i 0) (get_or ms i 0)))
+    ≤ length (words_of_frames hs (bounds_of ls ms))
+frame_room_lem [] ls ms each i l = absurd (omega (arith, l))
+frame_room_lem (h ∷ hs) [] ms each i l = absurd (omega (arith, each))
+frame_room_lem (h ∷ hs) (x ∷ ls) [] each i l = absurd (omega (arith, each))
+frame_room_lem (h ∷ hs) (x ∷ ls) (m ∷ ms) each zero l = omega (arith, frames_cons h hs (bounds x m ∷ bounds_of ls ms))
+frame_room_lem (h ∷ hs) (x ∷ ls) (m ∷ ms) each (suc i) l =
+    let w = bounds x m in
+    let r = frame_room_lem hs ls ms (omega (arith, each), omega (arith, each)) i (omega (arith, l)) in
+    omega (arith, frames_cons h hs (w ∷ bounds_of ls ms), frames_cons h (take i hs) (w ∷ take i (bounds_of ls ms)), r)
 
 -- no frame left
 pub wrote_none : {xs : List ℕ} (bs : List Bounds) {a : Writer} → xs ≡ [] → Wrote (words_of_frames xs bs) a a

@@ -6,5 +6,5 @@ mod frame;
 mod reader;
 mod writer;
 
-pub use reader::{Header, Room, read};
+pub use reader::{Header, read};
 pub use writer::write;

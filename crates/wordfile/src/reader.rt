@@ -28,7 +28,7 @@ pub struct Header {
 
 // Lists lent for the harvests, leasts and mosts of a file.
 #[derive(Drop)]
-pub struct Room<'a> {
+struct Room<'a> {
     pub harvest: &'a mut [u32],
     pub least: &'a mut [u32],
     pub most: &'a mut [u32],
