@@ -8,7 +8,7 @@ use certifier::Frames;
 // What a frame needs at a level and at one more.
 #[derive(Clone, Copy)]
 pub struct Needs {
-    pub level: u32,
+    pub level: u64,
     pub need: u64,
     pub more: u64,
 }
@@ -23,13 +23,13 @@ pub struct Block {
     pub bounds: Bounds,
     pub room: u64,
     pub end: u64,
-    pub tries: u32,
+    pub tries: u64,
     pub last: Option<Needs>,
 }
 
 // The reserve behind a block of a lowest level that ends before frame `to`: none where the level rises there, a full
 // store where it falls.
-pub fn end_of(frames: Frames, lows: &[u32], to: usize, low: u32) -> u64 {
+pub fn end_of(frames: Frames, lows: &[u32], to: usize, low: u64) -> u64 {
     if frames.count() <= to {
         return frames.rule.end;
     }

@@ -4,20 +4,20 @@ ghost use Rattle.std.specs.Prelude.{◌≡◌, get_or};
 // The lowest and the highest level of a frame.
 #[derive(Clone, Copy, PartialEq, Eq)]
 pub struct Bounds {
-    pub low: u32,
-    pub high: u32,
+    pub low: u64,
+    pub high: u64,
 }
 
 impl Bounds {
     // The middle of the interval.
     pub(crate) fn middle(self) -> u64 {
-        let low = u64::from(self.low);
-        low + u64::from(self.high).saturating_sub(low) / 2
+        self.low
+            .wrapping_add(self.high.saturating_sub(self.low) / 2)
     }
 
     // The level nearest to another one that is not above the highest.
-    pub(crate) fn nearest(self, level: u64) -> u32 {
-        level.max(u64::from(self.low)).min(u64::from(self.high)) as u32
+    pub(crate) fn nearest(self, level: u64) -> u64 {
+        level.max(self.low).min(self.high)
     }
 }
 
@@ -41,7 +41,7 @@ impl<'a> Levels<'a> {
     }
 
     // How often a frame was weighed.
-    pub(crate) fn tries(self, i: usize) -> u32 {
+    pub(crate) fn tries(self, i: usize) -> u64 {
         at(self.tries, i)
     }
 
@@ -55,8 +55,8 @@ impl<'a> Levels<'a> {
 }
 
 // The number at a place; 0 outside.
-pub(crate) fn at(list: &[u32], i: usize) -> u32
+pub(crate) fn at(list: &[u32], i: usize) -> u64
     ensures { result ≡ get_or list.now i 0 }
 {
-    list.get(i).copied().unwrap_or(0)
+    list.get(i).copied().unwrap_or(0) as u64
 }

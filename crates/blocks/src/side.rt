@@ -38,8 +38,8 @@ impl From<Mark> for u32 {
 }
 
 // A number that is no mark's says nothing.
-impl From<u32> for Mark {
-    fn from(number: u32) -> Mark {
+impl From<u64> for Mark {
+    fn from(number: u64) -> Mark {
         match number {
             0 => Mark::Below,
             1 => Mark::Level,
@@ -53,7 +53,7 @@ impl From<u32> for Mark {
 
 impl Side {
     // The side of a frame, from the side of the frame before it and the number of its own mark.
-    pub fn next(self, mark: u32) -> Side {
+    pub fn next(self, mark: u64) -> Side {
         match Mark::from(mark) {
             Mark::Below => Side::Below,
             Mark::Level => Side::Level,

@@ -17,10 +17,10 @@ struct Shared {
 impl Shared {
     // With one frame more, which gets so much: where it is not free between two levels, it takes its least above them
     // or its most below them.
-    fn with(self, f: At, gets: u64, floor: u64, roof: u64) -> Shared {
+    fn with(self, f: At, gets: u64, levels: Bounds) -> Shared {
         let have = self.have.wrapping_add(gets);
         let taken = self.taken.wrapping_add(f.drain);
-        if roof < f.least {
+        if levels.high < f.least {
             let taken = taken.wrapping_add(f.least);
             return Shared {
                 have,
@@ -28,7 +28,7 @@ impl Shared {
                 ..self
             };
         }
-        if f.most <= floor {
+        if f.most <= levels.low {
             let taken = taken.wrapping_add(f.most);
             return Shared {
                 have,
@@ -61,9 +61,8 @@ impl Block {
         }
     }
 
-    // What the frames of the block share that are free between two levels. These stay two numbers: `Bounds` are of 32
-    // bits, and the mean of few frames can be more.
-    fn share(self, frames: Frames, floor: u64, roof: u64) -> Shared {
+    // What the frames of the block share that are free between two levels.
+    fn share(self, frames: Frames, levels: Bounds) -> Shared {
         let mut s = Shared {
             have: 0,
             taken: self.end,
@@ -73,7 +72,7 @@ impl Block {
         };
         for k in self.from..self.to.min(frames.count()) {
             let f = frames.at(k);
-            s = s.with(f, self.income(k, f), floor, roof);
+            s = s.with(f, self.income(k, f), levels);
         }
         s
     }
@@ -81,14 +80,17 @@ impl Block {
     // The mean of the block, shared among the frames that no bound binds inside its interval; where bounds bind at that
     // mean, the mean of the frames that are free there. The middle of the interval where no frame is free.
     fn mean(self, frames: Frames) -> u64 {
-        let Bounds { low, high } = self.bounds;
         let middle = self.bounds.middle();
-        let s = self.share(frames, u64::from(low), u64::from(high));
+        let s = self.share(frames, self.bounds);
         let level = s.part().unwrap_or(middle);
         if s.least <= level && level < s.most {
             return level;
         }
-        self.share(frames, level, level).part().unwrap_or(middle)
+        let alone = Bounds {
+            low: level,
+            high: level,
+        };
+        self.share(frames, alone).part().unwrap_or(middle)
     }
 
     // The level at which the first frame would need its room, if its needs went on as they do from the last level to
@@ -99,10 +101,11 @@ impl Block {
             return None;
         }
         let slope = last.more - last.need;
-        let level = u64::from(last.level);
         Some(match self.room.checked_sub(last.need) {
-            Some(spare) => level.wrapping_add(spare / slope),
-            None => level.saturating_sub((last.need - self.room).div_ceil(slope)),
+            Some(spare) => last.level.wrapping_add(spare / slope),
+            None => last
+                .level
+                .saturating_sub((last.need - self.room).div_ceil(slope)),
         })
     }
 
@@ -117,12 +120,12 @@ impl Block {
     }
 
     // The level to try in the block: a likely one within its interval.
-    pub fn level_to_try(self, frames: Frames) -> u32 {
+    pub fn level_to_try(self, frames: Frames) -> u64 {
         self.bounds.nearest(self.likely(frames))
     }
 
     // The level of a block of one frame: what is left for it, and any above its most is as good.
-    pub fn lone(self, f: At) -> u32 {
+    pub fn lone(self, f: At) -> u64 {
         let level = self.room.saturating_sub(f.drain.wrapping_add(self.end));
         if f.most <= level {
             return self.bounds.high;

@@ -38,12 +38,11 @@ fn reserve_of(f: At, need: u64) -> u64 {
 }
 
 // What a frame needs at a level and at one more before what comes after it.
-fn needs_of(f: At, level: u32, after: Reserves) -> Needs {
-    let wide = u64::from(level);
+fn needs_of(f: At, level: u64, after: Reserves) -> Needs {
     Needs {
         level: level,
-        need: need_of(f, wide, after.low),
-        more: need_of(f, wide + 1, after.high),
+        need: need_of(f, level, after.low),
+        more: need_of(f, level.wrapping_add(1), after.high),
     }
 }
 
@@ -68,7 +67,7 @@ fn put(marks: &mut [u32], i: usize, mark: Mark) {
 impl Block {
     // Weighs a level over the block from behind: a mark for each frame, for the first one by its room, and what that
     // one needs.
-    pub fn weigh(self, frames: Frames, level: u32, marks: &mut [u32]) -> Needs {
+    pub fn weigh(self, frames: Frames, level: u64, marks: &mut [u32]) -> Needs {
         let mut needs = Needs {
             level: level,
             need: 0,

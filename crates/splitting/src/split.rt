@@ -28,8 +28,19 @@ struct Splitting<'f, 'l> {
     tries: &'l mut [u32],
 }
 
+// The low 32 bits.
+fn low_bits(x: u64) -> u32 {
+    (x % 4294967296) as u32
+}
+
+// Writes a number at the first `count` places, or at all that there are.
+fn fill(list: &mut [u32], count: usize, x: u32) {
+    let count = count.min(list.len());
+    list[..count].fill(x);
+}
+
 // The bounds of a frame on a side of a level that was tried in a block.
-fn bounds_on(side: Side, level: u32, bounds: Bounds) -> Bounds {
+fn bounds_on(side: Side, level: u64, bounds: Bounds) -> Bounds {
     let Bounds { low, high } = bounds;
     match side {
         Side::Below => Bounds {
@@ -41,7 +52,7 @@ fn bounds_on(side: Side, level: u32, bounds: Bounds) -> Bounds {
             high: level,
         },
         Side::Above => Bounds {
-            low: level.saturating_add(1).min(high),
+            low: level.wrapping_add(1).min(high),
             high,
         },
     }
@@ -51,7 +62,7 @@ fn bounds_on(side: Side, level: u32, bounds: Bounds) -> Bounds {
 // weighed. Gives the end of the first part.
 // The lists come one by one: as a method, which takes the block's part of three fields at once, it is not covered by
 // the borrow checker (tried), and one field after the other in a loop it took a twentieth more instructions.
-fn part(block: Block, level: u32, lows: &mut [u32], highs: &mut [u32], tries: &mut [u32]) -> usize {
+fn part(block: Block, level: u64, lows: &mut [u32], highs: &mut [u32], tries: &mut [u32]) -> usize {
     let (Some(lows), Some(highs), Some(tries)) = (
         lows.get_mut(block.from..block.to),
         highs.get_mut(block.from..block.to),
@@ -64,14 +75,14 @@ fn part(block: Block, level: u32, lows: &mut [u32], highs: &mut [u32], tries: &m
     let mut cut = None;
     let bounds = lows.iter_mut().zip(highs.iter_mut());
     for ((k, mark), (low, high)) in (block.from..block.to).zip(tries.iter_mut()).zip(bounds) {
-        side = side.next(*mark);
+        side = side.next(u64::from(*mark));
         if side != *first.get_or_insert(side) {
             cut = cut.or(Some(k));
         }
         let bounds = bounds_on(side, level, block.bounds);
-        *low = bounds.low;
-        *high = bounds.high;
-        *mark = block.tries.wrapping_add(1);
+        *low = low_bits(bounds.low);
+        *high = low_bits(bounds.high);
+        *mark = low_bits(block.tries.wrapping_add(1));
     }
     cut.unwrap_or(block.to)
 }
@@ -96,10 +107,10 @@ impl<'f, 'l> Splitting<'f, 'l> {
     // Writes the bounds of a frame.
     fn bound(&mut self, k: usize, bounds: Bounds) {
         if let Some(low) = self.lows.get_mut(k) {
-            *low = bounds.low;
+            *low = low_bits(bounds.low);
         }
         if let Some(high) = self.highs.get_mut(k) {
-            *high = bounds.high;
+            *high = low_bits(bounds.high);
         }
     }
 
@@ -198,13 +209,14 @@ pub fn split_levels(
     highs: &mut [u32],
     tries: &mut [u32],
 ) {
-    if frames.count() == 0 {
+    let count = frames.count();
+    if count == 0 {
         return;
     }
     let roof = roof_of(frames, start);
-    levels.fill(0);
-    highs.fill(roof);
-    tries.fill(0);
+    fill(levels, count, 0);
+    fill(highs, count, roof);
+    fill(tries, count, 0);
     let mut splitting = Splitting {
         frames: frames,
         start: start,
