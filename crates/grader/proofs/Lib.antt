@@ -1,4 +1,4 @@
--- What grading rests on: the tables, the bands and the list, and the promise.
+-- What grading rests on: the bands, and the promise.
 pub mod Bands
 pub mod Meaning
 pub mod Impostors

@@ -1,66 +1,59 @@
-// The house curves as tables, and the worth of one budget: band by band, the gain for each unit in the band.
-ghost use Rattle.std.specs.Prelude.{◌≡◌, ◌-◌, ◌*◌, ◌≤◌, ◌<◌, min, get_or};
+// The house curves as tables, and what budgets are worth on one.
+ghost use Rattle.std.specs.Prelude.{◌≡◌, ◌*◌, ◌≤◌, length};
 ghost use Rattle.model.specs.Curves as curves;
+ghost use Rattle.model.specs.Limits.{max_frames};
+ghost use Rattle.grader.specs.Curves.{curve_of, IsHouse};
 
-// Document 01's edges, a row for each curve.
-const EDGES: [[u64; 4]; 3] = [
-    [100, 300, 700, 1500],
-    [50, 200, 800, 2000],
-    [1000, 2000, 4000, 8000],
-];
-
-// Its gains per unit, one for each band between edges.
-const GAINS: [[u64; 5]; 3] = [[16, 8, 4, 2, 1], [24, 12, 3, 1, 0], [5, 4, 3, 2, 1]];
-
-// The edge that ends a band.
-fn edge(curve: usize, band: usize) -> u64
-    requires curve_bound { curve < 3 }
-    requires band_bound { band < 4 }
-    ensures { result ≡ get_or (curves.house_curve curve).edges band 0 }
-{
-    EDGES[curve][band]
+// A curve: the edges between its bands, and for each band the gain of a unit in it. Both arrays have the length that
+// the definition gives every curve, so neither has a length beside it.
+#[derive(Clone, Copy)]
+pub struct Curve {
+    edges: [u64; 4],
+    gains: [u64; 5],
 }
 
-// The gain of each unit in a band.
-fn gain(curve: usize, band: usize) -> u64
-    requires curve_bound { curve < 3 }
-    requires band_bound { band < 5 }
-    ensures { result ≡ get_or (curves.house_curve curve).gains band 0 }
-{
-    GAINS[curve][band]
-}
+pub const CURVE_0: Curve = Curve {
+    edges: [100, 300, 700, 1500],
+    gains: [16, 8, 4, 2, 1],
+};
 
-// How many of a budget's units lie past the first from and no further than to.
-fn units(budget: u64, from: u64, to: u64) -> u64
-    ensures { result ≡ min budget to - from }
-{
-    if budget <= from {
-        return 0;
-    }
-    if to <= from {
-        return 0;
-    }
-    if budget < to {
-        return budget - from;
-    }
-    to - from
-}
+pub const CURVE_1: Curve = Curve {
+    edges: [50, 200, 800, 2000],
+    gains: [24, 12, 3, 1, 0],
+};
 
-// What one budget is worth on a curve.
-pub fn budget_worth(curve: usize, budget: u32) -> u64
-    requires { curve < 3 }
-    ensures is { result ≡ curves.worth (curves.house_curve curve) budget }
-    ensures below { result ≤ 24 * budget }
-{
-    let all = budget as u64;
-    let mut sum: u64 = 0;
-    let mut from: u64 = 0;
-    let mut band: usize = 0;
-    while band < 4 {
-        let to = edge(curve, band);
-        sum += gain(curve, band) * units(all, from, to);
-        from = to;
-        band += 1;
+pub const CURVE_2: Curve = Curve {
+    edges: [1000, 2000, 4000, 8000],
+    gains: [5, 4, 3, 2, 1],
+};
+
+impl Curve {
+    // What one budget is worth: in each band, its gain for every unit of the budget.
+    fn worth(&self, budget: u32) -> u64
+        requires { IsHouse self.now }
+        ensures is { result ≡ curves.worth (curve_of self.now) budget }
+        ensures below { result ≤ 24 * budget }
+    {
+        let all = budget as u64;
+        let mut sum: u64 = 0;
+        let mut from: u64 = 0;
+        for (to, gain) in self.edges.iter().zip(&self.gains) {
+            sum += *gain * all.min(*to).saturating_sub(from);
+            from = *to;
+        }
+        sum + self.gains[4] * all.saturating_sub(from)
     }
-    sum + gain(curve, 4) * units(all, from, all)
+
+    // What a list of budgets is worth.
+    pub fn grade(&self, budgets: &[u32]) -> u64
+        requires house { IsHouse self.now }
+        requires few { length budgets.now ≤ max_frames }
+        ensures { result ≡ curves.grade (curve_of self.now) budgets.now }
+    {
+        let mut sum: u64 = 0;
+        for budget in budgets {
+            sum += self.worth(*budget);
+        }
+        sum
+    }
 }
