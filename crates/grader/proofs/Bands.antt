@@ -1,14 +1,23 @@
--- The worth of a budget one band at a time.
+-- The worth of a budget one band at a time, and the sum over a list.
 use mathlib.Core.Path.{◌≡◌, refl, sym, ap, ◌∙◌}
 use mathlib.Core.List.{List, [], ◌∷◌}
-use Prim.Native.Nat.{ℕ, zero, suc, ◌+◌, ◌-◌, ◌*◌, ◌≤◌, min}
+use Prim.Native.Nat.{ℕ, zero, suc, ◌+◌, ◌-◌, ◌*◌, ◌≤◌, ◌<◌, min}
+use native.Mathlib.Numerals.{add-one}
 use native.Mathlib.Omega.{arith}
-use lib.ListN.{length, get_or}
+use lib.ListN.{length, get_or, drop, drop_of_length-le}
+use lib.Seq.{drop-cons}
 use Rattle.std.proofs.Common.{◌⊎◌, inl, inr}
-use Rattle.model.specs.Curves.{Curve, house_curve, worth}
+use Rattle.model.specs.Curves.{Curve, house_curve, worth, grade}
 use Rattle.model.proofs.Curves.{bands, house_bands, worth_bound}
 use Rattle.grader.specs.declared.curves.Curve.{Curve as Table}
 use Rattle.grader.specs.Curves.{curve_of, IsHouse}
+
+-- an entry of a table of three rows is the one of its curve
+pub entry : (f : ℕ → List ℕ) (c j : ℕ) → c < 3 → get_or (get_or (f 0 ∷ (f 1 ∷ (f 2 ∷ []))) c []) j 0 ≡ get_or (f c) j 0
+entry f zero j h = refl
+entry f (suc zero) j h = refl
+entry f (suc (suc zero)) j h = refl
+entry f (suc (suc (suc c))) j h = let b : ⊥ = omega arith in absurd b
 
 -- four edges and five gains
 edges_four : (c : ℕ) → length (house_curve c).edges ≡ 4
@@ -58,3 +67,12 @@ pub band_end : (e x w sum g : ℕ) (es gs : List ℕ) → length es ≡ 0 → le
 band_end e x w sum g [] [] l m p q = let b : ⊥ = omega arith in absurd b
 band_end e x w sum g [] (h ∷ gs) l m p q = rw p q
 band_end e x w sum g (y ∷ es) gs l m p q = let b : ⊥ = omega arith in absurd b
+
+-- one more budget of a list
+pub grade_more : (c : Curve) (i : ℕ) (bs : List ℕ) → i < length bs →
+    grade c (drop i bs) ≡ worth c (get_or bs i 0) + grade c (drop (i + 1) bs)
+grade_more c i bs l = rw (add-one i) (ap (grade c) (drop-cons bs i 0 l))
+
+-- every budget counted
+pub grade_over : (c : Curve) (i : ℕ) (bs : List ℕ) → length bs ≤ i → grade c (drop i bs) ≡ 0
+grade_over c i bs l = ap (grade c) (drop_of_length-le bs {i = i} l)

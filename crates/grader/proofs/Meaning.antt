@@ -9,7 +9,7 @@ use Rattle.model.specs.declared.refusal.Refusal.{Refusal as Given}
 use Rattle.model.specs.Answer.{told}
 use Rattle.model.proofs.Answer.{said_value, said_refusal}
 use Rattle.model.specs.Refusals.{none, gives, grade_refusal}
-use Rattle.model.specs.Curves.{house_curve}
+use Rattle.model.specs.Curves.{house_curve, grade}
 use Rattle.model.proofs.Curves.{house_qualifies, earned_grade}
 use Rattle.model.proofs.Choice.{apart}
 use Rattle.grader.specs.declared.Sums.{Sums}
@@ -25,6 +25,12 @@ refused bs e p =
       earns1 = λ s h. apart (cc);
       earns2 = λ s h. apart (cc);
     }
+
+-- three numbers that are the sums on the three curves
+pub sums_are : (bs : List ℕ) (x y z : ℕ) → x ≡ grade (house_curve 0) bs → y ≡ grade (house_curve 1) bs →
+    z ≡ grade (house_curve 2) bs
+    → ◌≡◌ {A = Sums} (record { curve0 = x; curve1 = y; curve2 = z }) (sums_of bs)
+sums_are bs x y z p q r = rw (p, q, r)
 
 -- the sums are what the budgets earn
 pub graded : (bs : List ℕ) (s : Sums) → none ≡ grade_refusal (length bs) → s ≡ sums_of bs → GradeSays bs (Ok s)

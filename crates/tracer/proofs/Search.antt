@@ -4,10 +4,12 @@ use mathlib.Core.Bool.{Bool, true, false}
 use mathlib.Core.List.{List, [], ◌∷◌}
 use Prim.Native.Nat.{ℕ, zero, suc, ◌+◌, ◌≤◌, ◌<◌, ◌^◌}
 use native.Mathlib.Omega.{arith}
+use native.Mathlib.Numerals.{add-one}
 use lib.IntN.{ℤ, pos}
 use lib.Dec.{leb}
 use lib.Signed.{mag, le_z, non_neg}
-use lib.ListN.{length, get_or, take}
+use lib.ListN.{length, get_or, take, drop}
+use lib.Seq.{drop-cons}
 use mir.Syntax.{w64}
 use mir.Val.{to_z, of_z}
 use borrow.Author.Tests.{le-leb, lt-leb}
@@ -49,6 +51,35 @@ below_place_from k i (suc n) (z ∷ (y ∷ zs)) e =
 pub below_place : (n : ℕ) (zs : List ℤ) {r s : Option ℕ} → length zs ≡ suc n → r ≡ s →
     r ≡ position_from is_below 0 (take n zs) → frame_at 1 s ≡ below_from 1 zs
 below_place n zs e p q = ap (frame_at 1) (sym p ∙ q) ∙ below_place_from 1 0 n zs e
+
+-- two charges that are left
+two : (i : ℕ) (zs : List ℤ) → i + 1 < length zs → drop i zs ≡ get_or zs i (pos 0)
+    ∷ (get_or zs (suc i) (pos 0) ∷ drop (suc (suc i)) zs)
+two i zs l =
+    drop-cons zs i (pos 0) (omega arith)
+    ∙ ap (λ (ys : List ℤ). get_or zs i (pos 0) ∷ ys) (drop-cons zs (suc i) (pos 0) (omega arith))
+
+-- the first of two charges decides by its sign
+by_sign : (k : ℕ) (z y : ℤ) (zs : List ℤ) (t : Bool) → non_neg z ≡ t
+    → below_from k (z ∷ (y ∷ zs)) ≡ elim t as (λ _. ℕ) [ true ↦ below_from (suc k) (y ∷ zs) | false ↦ k ]
+by_sign k z y zs t e = ap (λ (u : Bool). elim u as (λ _. ℕ) [ true ↦ below_from (suc k) (y ∷ zs) | false ↦ k ]) e
+
+-- a charge below zero that is not the last is the one found
+pub found : (k i : ℕ) (zs : List ℤ) → i + 1 < length zs → non_neg (get_or zs i (pos 0)) ≡ false →
+    below_from k (drop i zs) ≡ k
+found k i zs l e =
+    ap (below_from k) (two i zs l)
+    ∙ by_sign k (get_or zs i (pos 0)) (get_or zs (suc i) (pos 0)) (drop (suc (suc i)) zs) false e
+
+-- any other is passed over
+pub passed : (i : ℕ) (zs : List ℤ) → i + 1 < length zs → non_neg (get_or zs i (pos 0)) ≡ true
+    → below_from (i + 1 + 1) (drop (i + 1) zs) ≡ below_from (i + 1) (drop i zs)
+passed i zs l e =
+    let k : i + 1 + 1 ≡ suc (i + 1) = omega arith in
+    rw (k, add-one i)
+    (ap (below_from (suc (suc i))) (drop-cons zs (suc i) (pos 0) (omega arith))
+    ∙ sym (ap (below_from (suc i)) (two i zs l)
+    ∙ by_sign (suc i) (get_or zs i (pos 0)) (get_or zs (suc i) (pos 0)) (drop (suc (suc i)) zs) true e))
 
 -- the last charge by its place
 pub last_is : (x : ℤ) (n : ℕ) (zs : List ℤ) → length zs ≡ suc n → last_from x zs ≡ get_or zs n (pos 0)
