@@ -1,67 +1,63 @@
 -- Filling a list with the budgets of the rest: what the planner asks is there, and what either way writes.
 use mathlib.Core.Path.{◌≡◌, sym, ap, ◌∙◌}
-use mathlib.Core.Bool.{Bool, true, false, not}
-use mathlib.Core.List.{List, [], ◌∷◌, ◌++◌}
-use Prim.Native.Nat.{ℕ, ◌+◌, ◌≤◌, ◌<◌}
+use mathlib.Core.Bool.{true, false, not}
+use mathlib.Core.List.{List, [], ◌∷◌}
+use Prim.Native.Nat.{ℕ, ◌+◌}
 use native.Mathlib.Omega.{arith}
-use native.Mathlib.Numerals.{add-one}
-use lib.ListN.{length, set, take, replicate, replicate-append-replicate}
-use lib.Seq.{take_all, take-suc-set}
-use Rattle.model.specs.declared.Figures.{Figures}
-use Rattle.model.specs.Refusals.{Refusal}
+use lib.ListN.{length, replicate}
+use Rattle.model.specs.declared.Request.{Request as Asked}
+use Rattle.model.specs.declared.refusal.Refusal.{Refusal as Given}
+use Rattle.model.specs.Answer.{asked, told}
+use Rattle.model.specs.Refusals.{Refusal, none, is_none, first_of, out_of_reach, leasts_refused, reachable}
 use Rattle.model.specs.Limits.{max_harvest}
-use Rattle.model.specs.Request.{Request, bounds_of, bounded_request, total, frame_count}
+use Rattle.model.specs.Request.{bounds_of, total, frame_count}
 use Rattle.model.specs.Charge.{all_within}
-use Rattle.model.specs.Refusals.{is_none, first_of, out_of_reach, leasts_refused, reachable, gives}
 use Rattle.model.specs.Frames.{plan}
 use Rattle.model.specs.Plan.{frames_of, plan_of}
+use Rattle.model.proofs.Answer.{told_some}
 use Rattle.model.proofs.Choice.{pick_by}
 use Rattle.model.proofs.Requests.{over_frames, within_reach}
 use Rattle.request.specs.Reach.{unreachable_by}
 use Rattle.request.proofs.Harvest.{total_small}
 use Rattle.request.proofs.Leasts.{leasts_are, unreachable_is}
 use Rattle.leveller.specs.Plan.{Ready}
-use Rattle.rest.specs.declared.RestAnswer.TheVariants as rest
+use Rattle.rest.specs.declared.Rest.TheVariants as rest
 use Rattle.rest.specs.Rest.{zeros, ending_of, Fillable, rest_budgets}
-use Rattle.rest.specs.Says.{rest_said}
+use Rattle.rest.specs.Says.{ended}
 use Rattle.rest.proofs.Ending.{short_by_lem, ending_short, ending_full}
 
--- one more entry cleared
-pub cleared_more :
-    (l : List ℕ) (i : ℕ) → i < length l → take i l ≡ replicate i 0 → take (i + 1) (set l i 0) ≡ replicate (i + 1) 0
-cleared_more l i h e =
-    ap (λ (n : ℕ). take n (set l i 0)) (add-one i)
-    ∙ take-suc-set l i 0 h
-    ∙ ap (λ (xs : List ℕ). xs ++ (0 ∷ [])) e
-    ∙ replicate-append-replicate i 1 0
+-- filling the budgets of a request that is lent
+module _ (a : Asked) (fits : Fillable (asked a))
+    (leasts_long : length a.lists.least.now ≡ length a.lists.harvest.now)
+    (mosts_long : length a.lists.most.now ≡ length a.lists.harvest.now) where
+  abbrev hs : List ℕ
+  hs = a.lists.harvest.now
 
--- all entries cleared
-pub cleared : (l : List ℕ) (i n : ℕ) → length l ≡ n → n ≤ i → i ≤ n → take i l ≡ replicate i 0 → l ≡ replicate n 0
-cleared l i n p q r e =
-    let z : i ≡ n = omega arith in sym (take_all i l (omega arith)) ∙ e ∙ ap (λ (m : ℕ). replicate m 0) z
+  abbrev ls : List ℕ
+  ls = a.lists.least.now
 
--- filling the budgets of a request with its lists lent
-module _ (f : Figures) (hs ls ms : List ℕ) (leasts_long : length ls ≡ length hs) (mosts_long : length ms ≡ length hs)
-    (fits : Fillable (bounded_request f hs ls ms)) where
-  abbrev pub asked : Request
-  asked = bounded_request f hs ls ms
+  abbrev ms : List ℕ
+  ms = a.lists.most.now
 
   -- refusals 9 and 11 as the code finds them are those of the definition
-  pub found : first_of (unreachable_by f hs ls) ≡ first_of (out_of_reach asked ∷ leasts_refused asked ∷ [])
+  found : first_of (unreachable_by a.figures hs ls) ≡ first_of (out_of_reach (asked a) ∷ leasts_refused (asked a) ∷ [])
   found =
-      unreachable_is f hs ls ms leasts_long mosts_long
+      unreachable_is a.figures hs ls ms leasts_long mosts_long
       (ap (all_within (bounds_of ls ms)) (sym (leasts_are hs ls ms leasts_long mosts_long)) ∙ fits.leasts_within)
 
-  -- so that none of them is found exactly when the request can be reached
-  pub reach_is : (g : Refusal) (t : Bool) → g ≡ first_of (unreachable_by f hs ls) → is_none g ≡ t → reachable asked ≡ t
-  reach_is g t e d = ap is_none (sym (e ∙ found)) ∙ d
+  -- so that one of them is found exactly when the request cannot be reached
+  reached : none ≡ first_of (unreachable_by a.figures hs ls) → reachable (asked a) ≡ true
+  reached e = sym (ap is_none (e ∙ found))
+
+  unreached : (e : Given) → told e ≡ first_of (unreachable_by a.figures hs ls) → reachable (asked a) ≡ false
+  unreached e d = sym (ap is_none (d ∙ found)) ∙ told_some e
 
   -- what the planner asks, with m the sum of the harvests
-  pub fill_ready : (m : ℕ) → m ≡ total hs → reachable asked ≡ true →
-      Ready f.capacity f.start f.end (f.start + m) hs ls ms
-  fill_ready m d h =
+  pub fill_ready : (m : ℕ) → m ≡ total hs → none ≡ first_of (unreachable_by a.figures hs ls) →
+      Ready a.figures.capacity a.figures.start a.figures.end (a.figures.start + m) hs ls ms
+  fill_ready m d e =
       let t = total_small max_harvest hs fits.small in
-      let w = within_reach asked fits.start_low fits.end_low h in
+      let w = within_reach (asked a) fits.start_low fits.end_low (reached e) in
       record {
         capacity_fits = omega arith;
         start_fits = omega arith;
@@ -70,32 +66,33 @@ module _ (f : Figures) (hs ls ms : List ℕ) (leasts_long : length ls ≡ length
         few = fits.few;
         leasts_long = leasts_long;
         mosts_long = mosts_long;
-        able = rw d (w.0, over_frames asked fits.start_low fits.end_low w.0 w.1);
+        able = rw d (w.0, over_frames (asked a) fits.start_low fits.end_low w.0 w.1);
       }
 
   -- zeros where it is short
-  pub fill_short : (n : ℕ) (ys : List ℕ) → n ≡ frame_count asked → reachable asked ≡ false → ys ≡ replicate n 0 →
-      ys ≡ rest_budgets asked
-  fill_short n ys k h d =
+  pub fill_short : (e : Given) → told e ≡ first_of (unreachable_by a.figures hs ls) → (n : ℕ) (ys : List ℕ) →
+      n ≡ frame_count (asked a) → ys ≡ replicate n 0 → ys ≡ rest_budgets (asked a)
+  fill_short e f n ys k d =
       d
       ∙ ap (λ (x : ℕ). replicate x 0) k
-      ∙ sym (pick_by (ending_of asked).short true (zeros asked) (plan_of asked) (ap not h))
+      ∙ sym (pick_by (ending_of (asked a)).short true (zeros (asked a)) (plan_of (asked a)) (ap not (unreached e f)))
 
   -- the plan where it is not
-  pub fill_full : (m : ℕ) (ys : List ℕ) → m ≡ total hs → reachable asked ≡ true →
-      ys ≡ plan f.end f.start (frames_of f.capacity (f.start + m) hs (bounds_of ls ms)) → ys ≡ rest_budgets asked
+  pub fill_full : (m : ℕ) (ys : List ℕ) → m ≡ total hs → none ≡ first_of (unreachable_by a.figures hs ls) →
+      ys ≡ plan a.figures.end a.figures.start (frames_of a.figures.capacity (a.figures.start + m) hs (bounds_of ls ms)) →
+      ys ≡ rest_budgets (asked a)
   unfolding plan_of
-  fill_full m ys t h d =
+  fill_full m ys t e d =
       d
-      ∙ ap (λ (x : ℕ). plan f.end f.start (frames_of f.capacity (f.start + x) hs (bounds_of ls ms))) t
-      ∙ sym (pick_by (ending_of asked).short false (zeros asked) (plan_of asked) (ap not h))
+      ∙ ap (λ (x : ℕ). plan a.figures.end a.figures.start (frames_of a.figures.capacity (a.figures.start + x) hs (bounds_of ls ms))) t
+      ∙ sym (pick_by (ending_of (asked a)).short false (zeros (asked a)) (plan_of (asked a)) (ap not (reached e)))
 
   -- how it ends either way
-  pub ends_short : (g : Refusal) → g ≡ first_of (unreachable_by f hs ls) → is_none g ≡ false →
-      rest_said (rest.Short g.p) ≡ gives (ending_of asked)
-  ends_short g e n =
-      ap gives (ending_short asked g.p (reach_is g false e n)
-      (ap (λ (x : Refusal). x.p) (e ∙ found) ∙ short_by_lem asked fits.start_low fits.end_low))
+  pub ends_short : (e : Given) → told e ≡ first_of (unreachable_by a.figures hs ls) → (m : ℕ) → m ≡ (told e).p →
+      ended (rest.Short m) ≡ ending_of (asked a)
+  ends_short e d m k =
+      ending_short (asked a) m (unreached e d)
+      (k ∙ ap (λ (x : Refusal). x.p) (d ∙ found) ∙ short_by_lem (asked a) fits.start_low fits.end_low)
 
-  pub ends_full : reachable asked ≡ true → rest_said rest.Planned ≡ gives (ending_of asked)
-  ends_full h = ap gives (ending_full asked h)
+  pub ends_full : none ≡ first_of (unreachable_by a.figures hs ls) → ended rest.Planned ≡ ending_of (asked a)
+  ends_full e = ending_full (asked a) (reached e)

@@ -1,5 +1,5 @@
 -- The laws behind planning the rest and returning its part.
 pub mod Ending
 mod Filled
-pub mod Rest
+pub mod Open
 pub mod Planned

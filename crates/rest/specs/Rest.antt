@@ -2,6 +2,7 @@
 use Rattle.std.specs.Prelude.{◌≡◌, Bool, true, false, not, List, [], ◌∷◌, ◌++◌, ℕ, suc, ◌+◌, ◌-◌, ◌≤◌, ℤ, pos, negsuc, length, get_or, take, drop, replicate}
 use Rattle.model.specs.Refusals.{Refusal}
 use Rattle.model.specs.Choice.{pick}
+use Rattle.model.specs.declared.Lists.{Lists as Lent}
 use Rattle.model.specs.Limits.{max_frames, max_harvest, max_capacity}
 use Rattle.model.specs.Request.{Request, figures, bounds_of, bounded_request, frame_count, leasts}
 use Rattle.model.specs.Refusals.{first_of, is_none, wrong_length, harvest_over_limit, bounds_refused, reachable}
@@ -22,6 +23,10 @@ pub record Lists : Type 0 where
 
 abbrev pub lists : List ℕ → List ℕ → List ℕ → Lists
 lists hs ls ms = record { harvest = hs; least = ls; most = ms }
+
+-- the lists that are lent
+abbrev pub lent : Lent → Lists
+lent a = lists a.harvest.now a.least.now a.most.now
 
 -- the rest as a request: the present charge for the start charge, and only the frames not yet recorded
 abbrev pub rest_of : Terms → Present → Lists → Request

@@ -1,22 +1,29 @@
 -- What planning the rest and returning its part promise: the answer and every lent list by an equation, then what the
 -- answer means.
-use Rattle.std.specs.Prelude.{◌≡◌, true, List, [], ◌++◌, ℕ, ◌+◌, ◌*◌, ◌<◌, length, take, drop}
+use Rattle.std.specs.Prelude.{◌≡◌, true, List, [], ◌++◌, ℕ, ◌+◌, ◌*◌, ◌<◌, length, take, drop, Result, Ok, Err}
+use Rattle.std.specs.Borrow.{Bor}
 use Rattle.model.specs.Choice.{pick}
-use Rattle.model.specs.Refusals.{Outcome, gives, refuses, outcome, is_none}
+use Rattle.model.specs.Refusals.{Refusal, none, Outcome, gives, refuses, outcome, is_none}
+use Rattle.model.specs.declared.refusal.Refusal.{Refusal as Given}
+use Rattle.model.specs.Answer.{told}
 use Rattle.shift.specs.declared.Shift.{Shift}
-use Rattle.rest.specs.declared.RestAnswer.{RestAnswer}
-use Rattle.rest.specs.declared.RestAnswer.TheVariants as rest
+use Rattle.rest.specs.declared.Rest.{Rest}
+use Rattle.rest.specs.declared.Rest.TheVariants as rest
 use Rattle.rest.specs.Rest.{Lists, Ending, not_short, ending_of, rest_request, rest_refusal, rest_budgets}
 use Rattle.rest.specs.Rest.{part_refusal, written_from, RestMeans}
 
+-- how a planning not refused ended
+abbrev pub ended : Rest → Ending
+ended rest.Planned = not_short
+ended (rest.Short m) = record { short = true; missing = m }
+
 -- what planning's answer says in document 01's terms: a refusal, or how the planning ended
-abbrev pub rest_said : RestAnswer → Outcome Ending
-rest_said rest.Planned = gives not_short
-rest_said (rest.Short m) = gives (record { short = true; missing = m })
-rest_said (rest.Refused f) = refuses f
+abbrev pub rest_said : Result Rest Given → Outcome Ending
+rest_said (Ok a) = gives (ended a)
+rest_said (Err e) = refuses (told e)
 
 -- planning the rest by the lists lent: budgets b before, b' after
-pub record RestSays (s : Shift) (p : Lists) (b b' : List ℕ) (a : RestAnswer) : Type 0 where
+pub record RestSays (s : Shift) (p : Lists) (b b' : List ℕ) (a : Result Rest Given) : Type 0 where
   -- planned, short with the missing amount, or the first refusal
   pub answer : rest_said a ≡ outcome (rest_refusal s p (length b)) (ending_of (rest_request s p))
   -- the rest's budgets from the next frame on, earlier entries kept; after a refusal all of them
@@ -44,3 +51,18 @@ pub record PartSays (s : Shift) (b part : List ℕ) (at part_at : ℕ × ℕ) (n
   -- what comes before the part and the part make up the lent list, and there is a frame to come
   pub rest :
       is_none (part_refusal s (length b)) ≡ true → (take s.now.recorded b ++ part ≡ b) × (0 < length part)
+
+-- a part of a list, as its contents and its position in memory, and the refusal
+pub record Part : Type 0 where
+  pub contents : List ℕ
+  pub at : ℕ × ℕ
+  pub refusal : Refusal
+
+-- the part that is returned; beside a refusal the empty part at the beginning of the list, which lies at that position
+abbrev pub part_as : ℕ × ℕ → Result (Bor (List ℕ)) Given → Part
+part_as at (Ok r) = record { contents = r.now; at = r.ref_ptr; refusal = none }
+part_as at (Err e) = record { contents = []; at = at; refusal = told e }
+
+-- the promise of a part, with budgets b lent at that position
+abbrev pub PartIs : Shift → List ℕ → ℕ × ℕ → Part → Type 0
+PartIs s b at x = PartSays s b x.contents at x.at x.refusal.number x.refusal.p

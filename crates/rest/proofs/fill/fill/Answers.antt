@@ -1,52 +1,32 @@
 -- Refusals 9 and 11 decide: with one of them the list is cleared, else the planner has what it asks and plans.
-use Rattle.std.proofs.Common.{sym, ◌∙◌, true, false, length}
+use Rattle.std.proofs.Common.{length}
 use Rattle.rest.proofs.Filled as law
 use Rattle.rest.proofs.fill.fill.Goals as goal
 
-pub returns-then-not-is_none-clause-ending : goal.returns-then-not-is_none-clause-ending
-returns-then-not-is_none-clause-ending c =
-    let a = c.args in
-    let g = c.unreachable_refusal-unreachable in
-    law.ends_short a.figures a.harvest.now a.least.now a.most.now c.requires.1 c.requires.2 c.requires.0
-    g.result g.ensures (sym c.is_none.ensures ∙ c.if-not-is_none.true)
+pub returns-in-Err-clause-ending : goal.returns-in-Err-clause-ending
+returns-in-Err-clause-ending c =
+    let q = c.requires in
+    law.ends_short c.args.request q.fillable q.least_len q.most_len c.in-Err.unreachable c.in-Err.ensures c.p-missing.result
+    c.p-missing.ensures
 
-pub returns-then-not-is_none-clause-written : goal.returns-then-not-is_none-clause-written
-returns-then-not-is_none-clause-written c =
-    let a = c.args in
-    let g = c.unreachable_refusal-unreachable in
-    law.fill_short a.figures a.harvest.now a.least.now a.most.now c.requires.1 c.requires.2 c.requires.0
-    (length a.budgets.now) c.clear.new.list c.requires.3
-    (law.reach_is a.figures a.harvest.now a.least.now a.most.now c.requires.1 c.requires.2 c.requires.0
-    g.result false g.ensures (sym c.is_none.ensures ∙ c.if-not-is_none.true))
-    c.clear.ensures
+pub returns-in-Err-clause-written : goal.returns-in-Err-clause-written
+returns-in-Err-clause-written c =
+    let q = c.requires in
+    law.fill_short c.args.request q.fillable q.least_len q.most_len c.in-Err.unreachable c.in-Err.ensures
+    (length c.args.budgets.now) c.fill.new.self q.budgets_len (c.fill.ensures.after (λ y e. e))
 
--- past the test the request can be reached
 pub plan_into-requires : goal.plan_into-requires
 plan_into-requires c =
-    let a = c.args in
-    let g = c.unreachable_refusal-unreachable in
-    let reached =
-    law.reach_is a.figures a.harvest.now a.least.now a.most.now c.requires.1 c.requires.2 c.requires.0
-    g.result true g.ensures (sym c.is_none.ensures ∙ c.if-not-is_none.false) in (
-      law.fill_ready a.figures a.harvest.now a.least.now a.most.now c.requires.1 c.requires.2 c.requires.0
-          c.sum.result c.sum.ensures.is reached,
-      c.requires.3,
-    )
+    let q = c.requires in
+    (law.fill_ready c.args.request q.fillable q.least_len q.most_len c.sum.result c.sum.ensures.is c.in_default.ensures, q.budgets_len)
 
 pub returns-clause-ending : goal.returns-clause-ending
 returns-clause-ending c =
-    let a = c.args in
-    let g = c.unreachable_refusal-unreachable in
-    law.ends_full a.figures a.harvest.now a.least.now a.most.now c.requires.1 c.requires.2 c.requires.0
-    (law.reach_is a.figures a.harvest.now a.least.now a.most.now c.requires.1 c.requires.2 c.requires.0
-    g.result true g.ensures (sym c.is_none.ensures ∙ c.if-not-is_none.false))
+    let q = c.requires in
+    law.ends_full c.args.request q.fillable q.least_len q.most_len c.in_default.ensures
 
 pub returns-clause-written : goal.returns-clause-written
 returns-clause-written c =
-    let a = c.args in
-    let g = c.unreachable_refusal-unreachable in
-    law.fill_full a.figures a.harvest.now a.least.now a.most.now c.requires.1 c.requires.2 c.requires.0
-    c.sum.result c.plan_into.new.budgets c.sum.ensures.is
-    (law.reach_is a.figures a.harvest.now a.least.now a.most.now c.requires.1 c.requires.2 c.requires.0
-    g.result true g.ensures (sym c.is_none.ensures ∙ c.if-not-is_none.false))
-    c.plan_into.ensures
+    let q = c.requires in
+    law.fill_full c.args.request q.fillable q.least_len q.most_len c.sum.result c.plan_into.new.budgets c.sum.ensures.is
+    c.in_default.ensures c.plan_into.ensures
