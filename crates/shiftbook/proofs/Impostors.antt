@@ -11,6 +11,7 @@ use lib.Dec.{eqb, ltb}
 use lib.ListN.{length, get_or, take, drop}
 use lib.Seq.{length-take-le, drop_at}
 use borrow.Author.Tests.{eq-eqb, eqb-true, not-true}
+use Rattle.std.specs.Prelude.{Result, Ok, Err}
 use Rattle.model.specs.Refusals.{Refusal}
 use Rattle.model.specs.Limits.{no_upper_end}
 use Rattle.model.specs.Request.{Request, figures, bounded_request, bounds_of}
@@ -25,19 +26,20 @@ use Rattle.model.proofs.Outcome.{gave, refused, no_refusal}
 use Rattle.shift.specs.declared.Shift.{Shift}
 use Rattle.shift.specs.declared.Terms.{Terms}
 use Rattle.shift.specs.declared.Present.{Present}
-use Rattle.shift.specs.declared.ShiftAnswer.{ShiftAnswer}
-use Rattle.rest.specs.declared.RestAnswer.{RestAnswer}
-use Rattle.rest.specs.declared.RestAnswer.TheVariants as rest
+use Rattle.model.specs.declared.refusal.Refusal.{Refusal as Given}
+use Rattle.model.specs.Answer.{told}
+use Rattle.rest.specs.declared.Rest.{Rest}
+use Rattle.rest.specs.declared.Rest.TheVariants as rest
 use Rattle.shift.specs.Shift.{started, is_shift, not_shift, all_recorded, use_too_great, recorded_by}
 use Rattle.rest.specs.Rest.{Lists, lists, zeros, missing_to, ending_of, rest_request, rest_over_limit, rest_bounds}
 use Rattle.rest.specs.Rest.{rest_refusal, rest_budgets, part_refusal, written_from}
-use Rattle.shift.specs.Says.{StartSays, RecordSays}
+use Rattle.shift.specs.Says.{ShiftAnswer, StartSays, RecordSays}
 use Rattle.rest.specs.Says.{RestSays, PartSays}
 use Rattle.shiftbook.proofs.Numbers as number
 
 -- short only where nothing of the rest is feasible, and by what zero budgets miss of the end charge
 pub short_only :
-    (s : Shift) (p : Lists) (b b' : List ℕ) (m : ℕ) → RestSays s p b b' (rest.Short m) →
+    (s : Shift) (p : Lists) (b b' : List ℕ) (m : ℕ) → RestSays s p b b' (Ok (rest.Short m)) →
     let q = rest_request s p in
     ((bs : List ℕ) → feasible q bs ≡ false) ×
     (m ≡ missing_to s.terms.end (last_from (pos s.now.charge) (trace q (zeros q))))
@@ -85,12 +87,12 @@ record_20_only s h u a p e =
 
 -- 20 at planning only where every frame is recorded
 pub rest_20_only :
-    (s : Shift) (p : Lists) (b b' : List ℕ) (f : Refusal) → RestSays s p b b' (rest.Refused f) → f.number ≡ 20 →
+    (s : Shift) (p : Lists) (b b' : List ℕ) (f : Given) → RestSays s p b b' (Err f) → (told f).number ≡ 20 →
     s.now.recorded ≡ s.terms.frames
 rest_20_only s p b b' f says e =
     let k = s.terms.frames in
     let n = s.now.recorded in
-    let d = (refused (rest_refusal s p (length b)) (ending_of (rest_request s p)) f says.answer).1 in
+    let d = (refused (rest_refusal s p (length b)) (ending_of (rest_request s p)) (told f) says.answer).1 in
     all_recorded_lem s.terms s.now (
     not_shift s
     ∷ wrong_length k (length p.harvest)
@@ -158,7 +160,7 @@ with_most =
 -- planning by lists of six that are not refused writes the rest's budgets behind the budget of frame 1, into any list
 -- of six
 rest_is :
-    (p : Lists) (b b' : List ℕ) (a : RestAnswer) → is_none (rest_refusal after_one p 6) ≡ true → length b ≡ 6 →
+    (p : Lists) (b b' : List ℕ) (a : Result Rest Given) → is_none (rest_refusal after_one p 6) ≡ true → length b ≡ 6 →
     RestSays after_one p b b' a →
     drop 1 b' ≡ rest_budgets (rest_request after_one p)
 rest_is p b b' a n l says =
@@ -171,35 +173,35 @@ rest_is p b b' a n l says =
 
 -- by the listing's forecast they are 2, 1, 1, 4, 4
 rest_listed :
-    (b b' : List ℕ) (a : RestAnswer) → length b ≡ 6 → RestSays after_one forecast b b' a →
+    (b b' : List ℕ) (a : Result Rest Given) → length b ≡ 6 → RestSays after_one forecast b b' a →
     drop 1 b' ≡ 2 ∷ 1 ∷ 1 ∷ 4 ∷ 4 ∷ []
 unfolding plan_of frames_of plan budget largest reserve
 rest_listed b b' a l p = rest_is forecast b b' a refl l p
 
 -- and by the other forecast 0, 0, 0, 4, 4
 rest_fewer :
-    (b b' : List ℕ) (a : RestAnswer) → length b ≡ 6 → RestSays after_one fewer_harvests b b' a →
+    (b b' : List ℕ) (a : Result Rest Given) → length b ≡ 6 → RestSays after_one fewer_harvests b b' a →
     drop 1 b' ≡ 0 ∷ 0 ∷ 0 ∷ 4 ∷ 4 ∷ []
 unfolding plan_of frames_of plan budget largest reserve
 rest_fewer b b' a l p = rest_is fewer_harvests b b' a refl l p
 
 -- and with a least of 3 in frame 4 they are 1, 0, 3, 4, 4
 rest_with_least :
-    (b b' : List ℕ) (a : RestAnswer) → length b ≡ 6 → RestSays after_one with_least b b' a →
+    (b b' : List ℕ) (a : Result Rest Given) → length b ≡ 6 → RestSays after_one with_least b b' a →
     drop 1 b' ≡ 1 ∷ 0 ∷ 3 ∷ 4 ∷ 4 ∷ []
 unfolding plan_of frames_of plan budget largest reserve
 rest_with_least b b' a l p = rest_is with_least b b' a refl l p
 
 -- with a most of 1 in frame 2 they are 1, 2, 1, 4, 4
 rest_with_most :
-    (b b' : List ℕ) (a : RestAnswer) → length b ≡ 6 → RestSays after_one with_most b b' a →
+    (b b' : List ℕ) (a : Result Rest Given) → length b ≡ 6 → RestSays after_one with_most b b' a →
     drop 1 b' ≡ 1 ∷ 2 ∷ 1 ∷ 4 ∷ 4 ∷ []
 unfolding plan_of frames_of plan budget largest reserve
 rest_with_most b b' a l p = rest_is with_most b b' a refl l p
 
 -- so the first plan kept for the whole shift is no answer, whatever list of six was lent
 pub not_first_plan :
-    (b b' : List ℕ) (a : RestAnswer) → length b ≡ 6 → RestSays after_one forecast b b' a →
+    (b b' : List ℕ) (a : Result Rest Given) → length b ≡ 6 → RestSays after_one forecast b b' a →
     drop 1 b' ≡ drop 1 first_plan → ⊥
 not_first_plan b b' a l p z =
     let e : ◌≡◌ {A = ℕ} 3 2 = ap (λ (xs : List ℕ). get_or xs 0 0) (sym z ∙ rest_listed b b' a l p) in omega arith
@@ -210,14 +212,14 @@ zeros_feasible = refl
 
 -- but they are no answer
 pub not_zeros :
-    (b b' : List ℕ) (a : RestAnswer) → length b ≡ 6 → RestSays after_one forecast b b' a →
+    (b b' : List ℕ) (a : Result Rest Given) → length b ≡ 6 → RestSays after_one forecast b b' a →
     drop 1 b' ≡ 0 ∷ 0 ∷ 0 ∷ 0 ∷ 0 ∷ [] → ⊥
 not_zeros b b' a l p z =
     let e : ◌≡◌ {A = ℕ} 0 2 = ap (λ (xs : List ℕ). get_or xs 0 0) (sym z ∙ rest_listed b b' a l p) in omega arith
 
 -- the same budgets from the next frame on for both forecasts, one fixed plan, are none
 pub not_fixed :
-    (b b' c c' : List ℕ) (x y : RestAnswer) → length b ≡ 6 → length c ≡ 6 → RestSays after_one forecast b b' x →
+    (b b' c c' : List ℕ) (x y : Result Rest Given) → length b ≡ 6 → length c ≡ 6 → RestSays after_one forecast b b' x →
     RestSays after_one fewer_harvests c c' y → drop 1 b' ≡ drop 1 c' → ⊥
 not_fixed b b' c c' x y l m p q z =
     let e : ◌≡◌ {A = ℕ} 2 0 = ap (λ (xs : List ℕ). get_or xs 0 0) (sym (rest_listed b b' x l p)
@@ -226,7 +228,7 @@ not_fixed b b' c c' x y l m p q z =
 
 -- the plan without bounds is no answer where a least or a most binds: bounds that planning is lent are not passed over
 pub most_not_passed_over :
-    (b b' c c' : List ℕ) (x y : RestAnswer) → length b ≡ 6 → length c ≡ 6 → RestSays after_one forecast b b' x →
+    (b b' c c' : List ℕ) (x y : Result Rest Given) → length b ≡ 6 → length c ≡ 6 → RestSays after_one forecast b b' x →
     RestSays after_one with_most c c' y → drop 1 b' ≡ drop 1 c' → ⊥
 most_not_passed_over b b' c c' x y l m p q z =
     let e : ◌≡◌ {A = ℕ} 2 1 = ap (λ (xs : List ℕ). get_or xs 0 0) (sym (rest_listed b b' x l p)
@@ -234,7 +236,7 @@ most_not_passed_over b b' c c' x y l m p q z =
     omega arith
 
 pub least_not_passed_over :
-    (b b' c c' : List ℕ) (x y : RestAnswer) → length b ≡ 6 → length c ≡ 6 → RestSays after_one forecast b b' x →
+    (b b' c c' : List ℕ) (x y : Result Rest Given) → length b ≡ 6 → length c ≡ 6 → RestSays after_one forecast b b' x →
     RestSays after_one with_least c c' y → drop 1 b' ≡ drop 1 c' → ⊥
 least_not_passed_over b b' c c' x y l m p q z =
     let e : ◌≡◌ {A = ℕ} 2 1 = ap (λ (xs : List ℕ). get_or xs 0 0) (sym (rest_listed b b' x l p)
@@ -242,7 +244,7 @@ least_not_passed_over b b' c c' x y l m p q z =
     omega arith
 
 -- short is none, whatever is said to be missing
-pub not_short : (b b' : List ℕ) (m : ℕ) → RestSays after_one forecast b b' (rest.Short m) → ⊥
+pub not_short : (b b' : List ℕ) (m : ℕ) → RestSays after_one forecast b b' (Ok (rest.Short m)) → ⊥
 not_short b b' m p =
     false≢true (sym ((short_only after_one forecast b b' m p).0 (0 ∷ 0 ∷ 0 ∷ 0 ∷ 0 ∷ [])) ∙ zeros_feasible)
 
@@ -255,10 +257,10 @@ pub not_refused_record : (a : ShiftAnswer) → RecordSays after_one 4 2 a → is
 not_refused_record a p = ap is_none p.refusal
 
 -- nor one of planning the rest with any list of six lent
-pub not_refused : (b b' : List ℕ) (f : Refusal) → length b ≡ 6 → RestSays after_one forecast b b' (rest.Refused f) → ⊥
+pub not_refused : (b b' : List ℕ) (f : Given) → length b ≡ 6 → RestSays after_one forecast b b' (Err f) → ⊥
 not_refused b b' f l p =
     no_refusal (rest_refusal after_one forecast (length b)) (ending_of (rest_request after_one forecast))
-    (ap (λ (n : ℕ). is_none (rest_refusal after_one forecast n)) l) f p.answer
+    (ap (λ (n : ℕ). is_none (rest_refusal after_one forecast n)) l) (told f) p.answer
 
 -- nor one of the rest's part of any list of six: its number is 0
 pub not_refused_part :

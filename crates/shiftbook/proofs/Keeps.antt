@@ -11,9 +11,8 @@ use Rattle.model.specs.Request.{Request, total}
 use Rattle.model.specs.Refusals.{gives, refuses, outcome, is_none}
 use Rattle.shift.specs.declared.Totals.{Totals}
 use Rattle.shift.specs.declared.Shift.{Shift}
-use Rattle.shift.specs.declared.ShiftAnswer.{ShiftAnswer}
 use Rattle.shift.specs.Shift.{is_shift, plus}
-use Rattle.shift.specs.Says.{shift_said}
+use Rattle.shift.specs.Says.{ShiftAnswer, shift_said}
 use Rattle.shiftbook.specs.Logbook.{Logbook, State, shift_of, state_of}
 use Rattle.shiftbook.specs.Kind.{Value, Kind, valued, is_number}
 use Rattle.shiftbook.specs.Run.{sums}

@@ -1,26 +1,27 @@
 -- Each kind of call keeps what is asked of it. The record that a call gets is the logbook's and passes 22, so its
 -- refusals are the logbook's, and so is everything else that its promise says.
 use mathlib.Core.Path.{◌≡◌, refl, sym, ap, subst, ◌∙◌}
-use mathlib.Core.Bool.{Bool, true, false}
+use mathlib.Core.Bool.{Bool, true, false, not}
 use mathlib.Core.List.{List, [], ◌∷◌, ◌++◌}
 use Prim.Native.Nat.{ℕ, suc, ◌-◌}
 use lib.Dec.{eqb, ltb}
 use lib.ListN.{length, take, drop}
 use lib.IntN.{pos}
+use Rattle.std.specs.Prelude.{Ok, Err}
 use Rattle.model.specs.Refusals.{Refusal}
 use Rattle.model.specs.Choice.{pick}
 use Rattle.model.specs.Request.{Request, bounds_of}
 use Rattle.model.specs.Trace.{trace, last_from}
 use Rattle.model.specs.Charge.{at_hand, frame_end}
-use Rattle.model.specs.Refusals.{gives, outcome, refusal, is_none, reachable}
+use Rattle.model.specs.Refusals.{outcome, refusal, is_none, reachable}
 use Rattle.shift.specs.declared.Totals.{Totals}
 use Rattle.shift.specs.declared.Shift.{Shift}
-use Rattle.shift.specs.declared.ShiftAnswer.{ShiftAnswer}
-use Rattle.rest.specs.declared.RestAnswer.TheVariants as rest
+use Rattle.model.specs.declared.refusal.Refusal.TheVariants as given
+use Rattle.rest.specs.declared.Rest.TheVariants as rest
 use Rattle.shift.specs.Shift.{is_shift, plus, recording_refusals, record_refusal, recorded_by}
-use Rattle.rest.specs.Rest.{Lists, zeros, missing_to, ending_of, rest_budgets, rest_refusal, rest_request}
+use Rattle.rest.specs.Rest.{Lists, zeros, missing_to, ending_of, rest_budgets, rest_refusals, rest_refusal, rest_request}
 use Rattle.rest.specs.Rest.{planning_refusals, written_from, RestMeans}
-use Rattle.shift.specs.Says.{RecordSays}
+use Rattle.shift.specs.Says.{ShiftAnswer, RecordSays}
 use Rattle.rest.specs.Says.{RestSays, rest_said}
 use Rattle.shift.proofs.Record.{past_22, record_says}
 use Rattle.rest.proofs.Planned.{rest_refused, rest_done}
@@ -139,6 +140,34 @@ planning_without p b l =
       ),
     )
 
+-- a refusal of planning is one that the code can tell
+planning_told : (s : Shift) (p : Lists) (b : ℕ) → number.Tellable (rest_refusal s p b)
+planning_told s p b =
+    let k = s.terms.frames in
+    let n = s.now.recorded in
+    number.first_told (rest_refusals s p b) (
+      number.test_told (not (is_shift s)) given.NotShift,
+      (
+        number.length_told k (length p.harvest),
+        (
+          number.length_told k (length p.least),
+          (
+            number.length_told k (length p.most),
+            (
+              number.length_told k b,
+              (
+                number.test_told (eqb n k) given.AllRecorded,
+                (
+                  number.harvest_told (suc n) (drop n p.harvest),
+                  (number.bounds_told (suc n) (bounds_of (drop n p.least) (drop n p.most)), tt),
+                ),
+              ),
+            ),
+          ),
+        ),
+      ),
+    )
+
 planning_possible : (p : Lists) (b : List ℕ) (x : State) →
     (a : Planning) × RestSays x.shift p b a.budgets a.answer
 planning_possible p b x = go (is_none (rest_refusal s p (length b))) refl (reachable q) refl
@@ -156,16 +185,16 @@ planning_possible p b x = go (is_none (rest_refusal s p (length b))) refl (reach
         (t : Bool) → is_none (rest_refusal s p (length b)) ≡ t → (u : Bool) → reachable q ≡ u →
         (a : Planning) × RestSays s p b a.budgets a.answer
     go false e u d =
-        let f = rest_refusal s p (length b) in
-        (record { answer = rest.Refused f; budgets = b }, rest_refused s p b f refl e)
+        let x = planning_told s p (length b) e in
+        (record { answer = Err x.0; budgets = b }, rest_refused s p b x.0 x.1)
     go true e true d = (
-      record { answer = rest.Planned; budgets = written },
-      rest_done s p b e rest.Planned (rest_budgets q) (ap gives (ending_full q d)) refl,
+      record { answer = Ok rest.Planned; budgets = written },
+      rest_done s p b e rest.Planned (rest_budgets q) (ending_full q d) refl,
     )
     go true e false d =
         let m = missing_to q.figures.end (last_from (pos q.figures.start) (trace q (zeros q))) in (
-          record { answer = rest.Short m; budgets = written },
-          rest_done s p b e (rest.Short m) (rest_budgets q) (ap gives (ending_short q m d refl)) refl,
+          record { answer = Ok (rest.Short m); budgets = written },
+          rest_done s p b e (rest.Short m) (rest_budgets q) (ending_short q m d refl) refl,
         )
 
 planning_keeps : (p : Lists) (b : List ℕ) → Keeps (planning p b)

@@ -1,11 +1,11 @@
 -- The calls of a shift, one block for each kind.
-use Rattle.std.specs.Prelude.{List, [], ◌∷◌, ℕ, length}
+use Rattle.std.specs.Prelude.{List, [], ◌∷◌, ℕ, length, Result}
+use Rattle.model.specs.declared.refusal.Refusal.{Refusal as Given}
 use Rattle.model.specs.Choice.{pick}
 use Rattle.model.specs.Refusals.{outcome, is_none}
-use Rattle.shift.specs.declared.ShiftAnswer.{ShiftAnswer}
-use Rattle.rest.specs.declared.RestAnswer.{RestAnswer}
+use Rattle.rest.specs.declared.Rest.{Rest}
 use Rattle.rest.specs.Rest.{Lists, ending_of, rest_budgets, written_from, RestMeans}
-use Rattle.shift.specs.Says.{shift_said, RecordSays}
+use Rattle.shift.specs.Says.{ShiftAnswer, shift_said, RecordSays}
 use Rattle.rest.specs.Says.{rest_said, RestSays}
 use Rattle.shiftbook.specs.Logbook.{Logbook, note_refusal, noted, planning_refusal, open_request, shift_of}
 use Rattle.shiftbook.specs.Logbook.{with_shift}
@@ -26,7 +26,7 @@ recording h u =
 
 -- what comes back from planning: the answer, and the budgets as they are afterwards
 pub record Planning : Type 0 where
-  pub answer : RestAnswer
+  pub answer : Result Rest Given
   pub budgets : List ℕ
 
 -- the budgets that the logbook gives for the lists lent and budgets b

@@ -4,9 +4,8 @@ use Rattle.std.specs.Prelude.{◌≡◌, Bool, true, false, ◌||◌, List, [], 
 use Rattle.model.specs.Request.{Request, total}
 use Rattle.model.specs.Refusals.{is_none}
 use Rattle.shift.specs.declared.Totals.{Totals}
-use Rattle.shift.specs.declared.ShiftAnswer.{ShiftAnswer}
 use Rattle.shift.specs.Shift.{is_shift}
-use Rattle.shift.specs.Says.{StartSays}
+use Rattle.shift.specs.Says.{ShiftAnswer, StartSays}
 use Rattle.shiftbook.specs.Logbook.{Logbook, opened, State, state_of}
 use Rattle.shiftbook.specs.Kind.{Told, is_number}
 use Rattle.shiftbook.specs.Calls.{Call, kind}
