@@ -4,14 +4,40 @@
 // loss so far. The last line has the totals.
 #![tactic(auto)]
 
-use model::Figures;
 use model::limits::NO_UPPER_END;
+use model::{Figures, Lists, Refusal, Request};
+use rest::{plan_rest, rest_part};
 use shift::Shift;
+use std::fmt;
 use std::io;
 
-// Writes a number and what follows it.
-fn put(rt: &impl Print, n: u64, end: &str) -> io::Result<()> {
-    print!(rt; "{n}{end}")
+// Why the program ends early: a write that failed, or a call that is refused.
+#[derive(Clone, Copy)]
+enum Failure {
+    Io(io::Error),
+    Refused(Refusal),
+}
+
+impl From<io::Error> for Failure {
+    fn from(error: io::Error) -> Failure {
+        Failure::Io(error)
+    }
+}
+
+impl From<Refusal> for Failure {
+    fn from(refusal: Refusal) -> Failure {
+        Failure::Refused(refusal)
+    }
+}
+
+// By hand, since a write that failed is told as the error itself.
+impl fmt::Debug for Failure {
+    fn fmt<W: fmt::Write>(&self, f: &mut fmt::Formatter<W>) -> fmt::Result {
+        match self {
+            Failure::Io(error) => error.fmt(f),
+            Failure::Refused(refusal) => refusal.fmt(f),
+        }
+    }
 }
 
 // Writes a list of budgets as a line.
@@ -23,91 +49,57 @@ fn list(rt: &impl Print, budgets: &[u32]) -> io::Result<()> {
     rt.print("\n")
 }
 
-// The budget, or what is there if that is less.
-fn use_of(budget: u32, charge: u32, harvest: u32) -> u32 {
-    let have = charge as u64 + harvest as u64;
-    if (budget as u64) < have {
-        budget
-    } else {
-        have as u32
-    }
-}
-
 // The frame's line.
-fn line(rt: &impl Print, harvest: u32, used: u32, s: Shift) -> io::Result<()> {
-    put(rt, s.now.recorded as u64, " ")?;
-    put(rt, harvest as u64, " ")?;
-    put(rt, used as u64, " ")?;
-    put(rt, s.now.charge as u64, " ")?;
-    put(rt, s.now.totals.lost, "\n")
+fn line(rt: &impl Print, harvest: u32, used: u32, shift: Shift) -> io::Result<()> {
+    let now = shift.now;
+    println!(rt; "{} {harvest} {used} {} {}", now.recorded, now.charge, now.totals.lost)
 }
 
 // One frame: the rest planned, the frame recorded, and the shift as it stands after it.
 fn frame(
     rt: &impl Print,
-    s: Shift,
-    forecast: &[u32],
-    least: &[u32],
-    most: &[u32],
-    sun: u32,
+    shift: Shift,
+    lists: Lists,
+    harvest: u32,
     budgets: &mut [u32],
-) -> io::Result<Shift> {
-    rest::plan_rest(s, forecast, least, most, budgets);
-    let mut number = 0;
-    let mut p = 0;
-    let part = rest::rest_part(s, budgets, &mut number, &mut p);
-    if part.len() == 0 {
-        return Ok(s);
-    }
+) -> Result<Shift, Failure> {
+    plan_rest(shift, lists, budgets)?;
+    let part = rest_part(shift, budgets)?;
     list(rt, part)?;
-    let used = use_of(part[0], s.now.charge, sun);
-    let answer = s.record(sun, used);
-    let t = answer.shift;
-    line(rt, sun, used, t)?;
-    Ok(t)
+    let used = part[0].min(shift.now.charge.saturating_add(harvest));
+    let after = shift.record(harvest, used)?;
+    line(rt, harvest, used, after)?;
+    Ok(after)
 }
 
 // All frames, and the totals.
 fn run(
     rt: &impl Print,
     first: Shift,
-    forecast: &[u32],
-    least: &[u32],
-    most: &[u32],
+    lists: Lists,
     sun: &[u32],
     budgets: &mut [u32],
-) -> io::Result<()> {
-    let mut s = first;
-    for &harvest in sun {
-        s = frame(rt, s, forecast, least, most, harvest, budgets)?;
+) -> Result<(), Failure> {
+    let mut shift = first;
+    for harvest in sun {
+        shift = frame(rt, shift, lists, *harvest, budgets)?;
     }
-    put(rt, s.now.totals.harvested, " ")?;
-    put(rt, s.now.totals.used, " ")?;
-    put(rt, s.now.totals.lost, "\n")
+    let totals = shift.now.totals;
+    println!(rt; "{} {} {}", totals.harvested, totals.used, totals.lost)?;
+    Ok(())
 }
 
-fn main(rt: HostRuntime) -> io::Result<()> {
-    let forecast = [6u32, 4, 0, 0, 5, 5];
-    let least = [0u32; 6];
-    let most = [NO_UPPER_END; 6];
-    let sun = [1u32, 5, 2, 0, 10, 4];
-    let mut budgets = [0u32; 6];
+fn main(rt: HostRuntime) -> Result<(), Failure> {
+    let lists = Lists {
+        harvest: &[6, 4, 0, 0, 5, 5],
+        least: &[0; 6],
+        most: &[NO_UPPER_END; 6],
+    };
     let figures = Figures {
         capacity: 5,
         start: 2,
         end: 2,
     };
-    let answer = shift::start(figures, &forecast, &least, &most);
-    if answer.refusal.number == 0 {
-        run(
-            &rt,
-            answer.shift,
-            &forecast,
-            &least,
-            &most,
-            &sun,
-            &mut budgets,
-        )?;
-    }
-    Ok(())
+    let first = shift::start(Request { figures, lists })?;
+    run(&rt, first, lists, &[1, 5, 2, 0, 10, 4], &mut [0; 6])
 }
