@@ -6,7 +6,7 @@ use Prim.Native.Nat.{ℕ, zero, suc, ◌+◌, ◌-◌, ◌*◌, ◌≤◌, ◌<�
 use native.Mathlib.Nat.{mul-le-mul_left}
 use native.Mathlib.Omega.{arith}
 use lib.Dec.{ltb, eqb}
-use lib.ListN.{length, get_or}
+use lib.ListN.{length, get_or, drop, drop_of_length-le}
 use borrow.Author.Tests.{ltb-true, ltb-false, eqb-true, eqb-false}
 use Rattle.std.proofs.Common.{Option}
 use Rattle.std.specs.List.{position_from, fold, sum}
@@ -78,25 +78,22 @@ total_is_sum xs = let i = added_up 0 xs in i ∙ omega arith
 pub total_below : (m : ℕ) (xs : List ℕ) → ((i : ℕ) → get_or xs i 0 < m) → total xs ≤ m * length xs
 total_below m xs h = total_small m xs (λ i. let l = h i in omega arith)
 
--- taking all off one after the other takes their sum off
-pub taken_off : (w : ℕ) (xs : List ℕ) → fold (λ v x. v - x) w xs ≡ w - total xs
-taken_off w [] = omega arith
-taken_off w (x ∷ xs) = let i = taken_off (w - x) xs in i ∙ omega arith
+-- every entry summed
+pub total_over : (i : ℕ) (hs : List ℕ) → length hs ≤ i → total (drop i hs) ≡ 0
+total_over i hs l = ap total (drop_of_length-le hs {i = i} l)
 
 -- refusal 9 by what is left of the end charge
 pub reach_left : (r : Request) (left : ℕ) → left ≡ (r.figures.end - r.figures.start) - total r.harvest →
     pick (eqb left 0) none (refusal 9 left) ≡ out_of_reach r
 reach_left r left e =
-    let m = most_energy r in
-    let f = r.figures.end in
-    let l : left ≡ f - m = omega arith in
-    rw l (go (ltb m f) refl (eqb (f - m) 0) refl)
+    let l : left ≡ p = omega arith in
+    rw l (go (ltb m r.figures.end) refl (eqb p 0) refl)
   where
     m : ℕ
     m = most_energy r
 
     p : ℕ
-    p = r.figures.end - most_energy r
+    p = r.figures.end - m
 
     go : (t : Bool) → ltb m r.figures.end ≡ t → (u : Bool) → eqb p 0 ≡ u → pick u none (refusal 9 p) ≡ pick t (refusal 9 p) none
     go true q true s = let z : p ≡ 0 = eqb-true p 0 s in let l = ltb-true m r.figures.end q in absurd (omega arith)

@@ -16,14 +16,18 @@ use crate::refusals::check_that;
 use model::frame::{at_hand, charge_after};
 use model::{Figures, Refusal, Request};
 
-// Refusal 9, whose P is the amount missing: what is left of the end charge when start and harvest are taken off.
+// Refusal 9, whose P is the amount missing: what is left of the end charge when start and harvest are taken off, one
+// after the other until nothing is left.
 pub fn check_reach(figures: Figures, harvest: &[u32]) -> Result<(), Refusal>
     ensures { refused result ≡ out_of_reach (request figures harvest.now) }
 {
-    let wanted = figures.end.saturating_sub(figures.start);
-    let missing = harvest
-        .iter()
-        .fold(wanted, |left, h| left.saturating_sub(*h));
+    let mut missing = figures.end.saturating_sub(figures.start);
+    for h in harvest {
+        if missing == 0 {
+            return Ok(());
+        }
+        missing = missing.saturating_sub(*h);
+    }
     check_that(missing == 0, Refusal::OutOfReach(missing as u64))
 }
 
