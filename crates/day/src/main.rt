@@ -8,8 +8,7 @@ use model::limits::NO_UPPER_END;
 use model::{Figures, Lists, Refusal, Request};
 use rest::{plan_rest, rest_part};
 use shift::Shift;
-use std::fmt;
-use std::io;
+use std::{fmt, io};
 
 // Why the program ends early: a write that failed, or a call that is refused.
 #[derive(Clone, Copy)]
@@ -52,7 +51,10 @@ fn list(rt: &impl Print, budgets: &[u32]) -> io::Result<()> {
 // The frame's line.
 fn line(rt: &impl Print, harvest: u32, used: u32, shift: Shift) -> io::Result<()> {
     let now = shift.now;
-    println!(rt; "{} {harvest} {used} {} {}", now.recorded, now.charge, now.totals.lost)
+    println!(rt;
+        "{} {harvest} {used} {} {}",
+        now.recorded, now.charge, now.totals.lost
+    )
 }
 
 // One frame: the rest planned, the frame recorded, and the shift as it stands after it.
@@ -89,6 +91,7 @@ fn run(
     Ok(())
 }
 
+// The lists are arrays of the six frames, since there is no heap.
 fn main(rt: HostRuntime) -> Result<(), Failure> {
     let lists = Lists {
         harvest: &[6, 4, 0, 0, 5, 5],
