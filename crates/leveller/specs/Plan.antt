@@ -2,7 +2,7 @@
 use Rattle.std.specs.Prelude.{◌≡◌, List, ℕ, ◌≤◌, ◌<◌, ◌^◌, length}
 use Rattle.model.specs.Limits.{max_frames}
 use Rattle.model.specs.Request.{bounds_of}
-use Rattle.model.specs.Frames.{Feasible, plan, peak}
+use Rattle.model.specs.Frames.{Feasible}
 use Rattle.model.specs.Plan.{frames_of}
 
 -- what the planning of frames from a start charge asks: figures of 32 bits, no more frames than there may be, a least
@@ -16,9 +16,3 @@ pub record Ready (capacity start end energy : ℕ) (harvest least most : List �
   pub leasts_long : length least ≡ length harvest
   pub mosts_long : length most ≡ length harvest
   pub able : (bs : List ℕ) × Feasible end start (frames_of capacity energy harvest (bounds_of least most)) bs
-
--- r is the greatest charge that the plan requires after any frame
-abbrev pub PeakOf : ℕ → ℕ → ℕ → ℕ → List ℕ → List ℕ → List ℕ → ℕ → Type 0
-PeakOf capacity start end energy hs ls ms r =
-    let fs = frames_of capacity energy hs (bounds_of ls ms) in
-    r ≡ peak end fs (plan end start fs)

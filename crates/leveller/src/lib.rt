@@ -11,10 +11,8 @@
 
 mod guess;
 mod level;
-mod old;
 mod plan;
 mod task;
 
 pub use certifier::Rule;
-pub use old::{plan_into, plan_peak};
 pub use task::Task;

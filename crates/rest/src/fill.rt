@@ -5,7 +5,7 @@ ghost use Rattle.rest.specs.Rest.{Fillable, ending_of, rest_budgets};
 ghost use Rattle.rest.specs.Says.{ended};
 
 use crate::Rest;
-use leveller::plan_into;
+use leveller::{Rule, Task};
 use model::Request;
 use request::{check_reachable, sum};
 
@@ -26,15 +26,11 @@ pub fn fill(request: Request, budgets: &mut [u32]) -> Rest
         return Rest::Short(missing);
     }
     let start = figures.start as u64;
-    plan_into(
-        figures.capacity as u64,
-        start,
-        figures.end as u64,
-        start + sum(lists.harvest),
-        lists.harvest,
-        lists.least,
-        lists.most,
-        budgets,
-    );
+    let rule = Rule {
+        capacity: figures.capacity as u64,
+        end: figures.end as u64,
+        energy: start + sum(lists.harvest),
+    };
+    Task::of(rule, lists, start).plan_into(budgets);
     Rest::Planned
 }
