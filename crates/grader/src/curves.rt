@@ -4,8 +4,8 @@ ghost use Rattle.model.specs.Curves as curves;
 ghost use Rattle.model.specs.Limits.{max_frames};
 ghost use Rattle.grader.specs.Curves.{curve_of, IsHouse};
 
-// A curve: the edges between its bands, and for each band the gain of a unit in it. Both arrays have the length that
-// the definition gives every curve, so neither has a length beside it.
+// A curve: the edges between its bands, and for each band the gain of a unit in it. Two arrays, since there is one gain
+// more than edges; of fixed lengths, since a Vec would need a heap.
 #[derive(Clone, Copy)]
 pub struct Curve {
     edges: [u64; 4],

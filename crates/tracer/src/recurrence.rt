@@ -30,6 +30,7 @@ pub fn fill(
         charge: figures.start as i64,
         lost: 0,
     };
+    // By places: tried as a zip of the four lists, with `iter_mut`, of whose writes a proof knows nothing afterwards.
     for i in 0..charges.len() {
         end = frame_end(capacity, end.charge, harvest[i], budgets[i]);
         charges[i] = end.charge;
