@@ -17,6 +17,6 @@ mod requirement;
 mod weight;
 
 pub use draft::Draft;
-pub use frame::{At, Rule};
+pub use frame::{At, Rule, draw, gap};
 pub use frames::Frames;
 pub use requirement::peak_requirement;
