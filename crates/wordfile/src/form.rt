@@ -45,7 +45,7 @@ pub struct Closed {
 
 // What a bound with this mark does to the machine.
 fn bound_by(state: State, mark: u32) -> Step
-    requires { mark < 2 ^ 31 }
+    requires { mark < 8 }
     ensures { result ≡ bounded state mark }
 {
     if mark < state.mark {
