@@ -15,7 +15,7 @@ stands() {
             inside && index($0, "  pub " field " :") == 1 { found = 1 }
             END { exit !found }' "$file" ;;
     *) case $file in
-        *.rt) grep -Eq "^ *(pub )?fn $name\(" "$file" ;;
+        *.rt) grep -Eq "^ *(pub )?fn ${name#*::}[(<]" "$file" ;;
         *) grep -Eq "^ *(abbrev |unfoldable )?pub (record |data )?$name( |\$)" "$file" ;;
         esac ;;
     esac
@@ -52,14 +52,28 @@ names_in() {
 # passed_on FILE: what stands behind each 'pub use' of a source, one a line
 passed_on() { tr -s '\n' ' ' <"$1" | grep -o 'pub use [^;]*;' | sed 's/^pub use //; s/;$//'; }
 
-# handed_on CRATE: every function that other crates can call, by name or in a public module
+# methods_of CRATE TYPE ..: every method of these types that other crates can call, as Type::method
+methods_of() {
+    local source=crates/$1/src
+    awk -v types=" ${*:2} " '
+        /^impl/ { type = $0; sub(/^impl(<[^>]*>)? */, "", type); trait = type ~ / for /; sub(/[^A-Za-z0-9_].*/, "", type)
+                  inside = !trait && index(types, " " type " ") }
+        /^}/ { inside = 0 }
+        inside && match($0, /^    pub (const )?fn [a-z_0-9]+/) { name = substr($0, 1, RLENGTH); sub(/.* /, "", name); print type "::" name }
+    ' "$source"/*.rt
+}
+
+# handed_on CRATE: every function that other crates can call, by name or in a public module, and every method of the types it hands on
 handed_on() {
-    local source=crates/$1/src module
-    passed_on "$source/lib.rt" | sed 's/^[a-z_]*:://' | tr -s '{}, ' '\n' | grep -x '[a-z_]\+'
-    sed -n 's/^pub fn \([a-z_]*\)[(<].*/\1/p' "$source/lib.rt"
-    for module in $(sed -n 's/^pub mod \([a-z_]*\);$/\1/p' "$source/lib.rt"); do
-        sed -n 's/^pub fn \([a-z_]*\)[(<].*/\1/p' "$source/$module.rt"
-    done
+    local source=crates/$1/src module names files
+    files=$source/lib.rt
+    for module in $(sed -n 's/^pub mod \([a-z_]*\);$/\1/p' "$source/lib.rt"); do files="$files $source/$module.rt"; done
+    names=$(passed_on "$source/lib.rt" | sed 's/^[a-z_]*:://' | tr -s '{}, ' '\n')
+    grep -x '[a-z_]\+' <<<"$names"
+    # shellcheck disable=SC2086 # the files of a crate, none of which has a blank in its name
+    sed -n 's/^pub fn \([a-z_]*\)[(<].*/\1/p' $files
+    # shellcheck disable=SC2046,SC2086
+    methods_of "$1" $(grep -x '[A-Z][A-Za-z0-9]*' <<<"$names") $(sed -n 's/^pub \(struct\|enum\) \([A-Za-z0-9]*\).*/\2/p' $files)
 }
 
 # every function that a crate hands on is an entry or an inner function of READING, save what energy has for C, and none is missing
@@ -68,7 +82,7 @@ public=$(for lib in crates/*/src/lib.rt; do
     crate=${crate%%/*}
     [ "$crate" = energy ] || handed_on "$crate" | sed "s/^/$crate /"
 done | sort)
-listed=$( (names_in '| entry | code | promise |'; names_in '| crate | functions | condition |') | grep -vE '^energy |::' | sort)
+listed=$( (names_in '| entry | code | promise |'; names_in '| crate | functions | condition |') | grep -v '^energy ' | sort)
 differing=$(diff <(echo "$listed") <(echo "$public") | grep '^[<>]')
 verdict $((${#differing} > 0)) "READING: entries and inner functions (<) and what the crates hand on (>) differ:"$'\n'"$differing"
 ! for lib in crates/*/src/lib.rt; do passed_on "$lib"; done | grep -vEx '[a-z_]+::([A-Za-z0-9_]+|\{[A-Za-z0-9_, ]+\})'
