@@ -1,5 +1,5 @@
 -- Refusal 6 of a list one frame at a time, what its absence says of every harvest, and the sum of a list.
-use mathlib.Core.Path.{◌≡◌, refl, ap, ◌∙◌}
+use mathlib.Core.Path.{◌≡◌, refl, sym, ap, ◌∙◌}
 use mathlib.Core.Bool.{Bool, true, false, false≢true}
 use mathlib.Core.List.{List, [], ◌∷◌}
 use Prim.Native.Nat.{ℕ, zero, suc, ◌+◌, ◌-◌, ◌*◌, ◌≤◌, ◌<◌}
@@ -7,12 +7,13 @@ use native.Mathlib.Nat.{mul-le-mul_left}
 use native.Mathlib.Omega.{arith}
 use lib.Dec.{ltb, eqb}
 use lib.ListN.{length, get_or, drop, drop_of_length-le}
-use borrow.Author.Tests.{ltb-true, ltb-false, eqb-true, eqb-false}
+use borrow.Author.Tests.{lt-ltb, le-ltb, ltb-true, ltb-false, eqb-true, eqb-false}
 use Rattle.std.proofs.Common.{Option}
 use Rattle.std.specs.List.{position_from, fold, sum}
 use Rattle.model.specs.Refusals.{Refusal}
 use Rattle.model.specs.Limits.{max_frames, max_harvest}
 use Rattle.model.specs.Choice.{pick}
+use Rattle.model.proofs.Choice.{pick_by}
 use Rattle.model.specs.Request.{Request, total, most_energy}
 use Rattle.model.specs.Refusals.{refusal, none, is_none, harvest_over_limit, out_of_reach}
 use Rattle.request.proofs.Place.{at_place, by_place}
@@ -100,3 +101,28 @@ reach_left r left e =
     go true q false s = refl
     go false q true s = refl
     go false q false s = let z = eqb-false p 0 s in let l = ltb-false m r.figures.end q in absurd (z (omega arith))
+
+-- where what is summed so far reaches the end charge, refusal 9 does not hold
+pub reached : (r : Request) (x rest : ℕ) → x + rest ≡ most_energy r → r.figures.end ≤ x → none ≡ out_of_reach r
+reached r x rest e l =
+    sym (pick_by (ltb (most_energy r) r.figures.end) false (refusal 9 (r.figures.end - most_energy r)) none
+    (le-ltb (most_energy r) r.figures.end (omega arith)))
+
+-- where the whole sum is below the end charge, refusal 9 holds
+pub missed : (r : Request) (x : ℕ) → x ≡ most_energy r → x < r.figures.end →
+    refusal 9 (r.figures.end - x) ≡ out_of_reach r
+missed r x e l =
+    ap (λ (y : ℕ). refusal 9 (r.figures.end - y)) e
+    ∙ sym (pick_by (ltb (most_energy r) r.figures.end) true (refusal 9 (r.figures.end - most_energy r)) none
+    (lt-ltb (most_energy r) r.figures.end (omega arith)))
+
+-- no refusal 9 has P 0
+pub reach_none : (r : Request) → is_none (out_of_reach r) ≡ true → out_of_reach r ≡ none
+reach_none r e = go (ltb (most_energy r) r.figures.end) e
+  where
+    p : ℕ
+    p = r.figures.end - most_energy r
+
+    go : (t : Bool) → is_none (pick t (refusal 9 p) none) ≡ true → pick t (refusal 9 p) none ≡ none
+    go true q = absurd (false≢true q)
+    go false q = refl
