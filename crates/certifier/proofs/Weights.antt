@@ -2,7 +2,7 @@
 use mathlib.Core.Path.{◌≡◌, refl, sym, ◌∙◌}
 use mathlib.Core.Logic.{⊎_elim}
 use mathlib.Core.List.{List, ◌∷◌}
-use Prim.Native.Nat.{ℕ, ◌+◌, ◌≤◌, ◌<◌, min}
+use Prim.Native.Nat.{ℕ, ◌+◌, ◌-◌, ◌≤◌, ◌<◌, ◌^◌, min}
 use native.Mathlib.Nat.{le_refl, min-le_left}
 use native.Mathlib.Omega.{arith}
 use lib.ListN.{length, drop, set, get_or, drop_of_length-le}
@@ -14,7 +14,7 @@ use Rattle.certifier.specs.declared.frame.At.{At}
 use Rattle.certifier.specs.declared.weight.Weight.{Weight}
 use Rattle.certifier.specs.Frame.{frame, Read}
 use Rattle.certifier.specs.Course.{Bounded, Steady, Turn, Turns, CourseFrom, StartsFrom}
-use Rattle.certifier.specs.Says.{TurnedAt, WeighedAt}
+use Rattle.certifier.specs.Says.{Light, TurnedAt, WeighedAt}
 use Rattle.certifier.proofs.Course.{reserve_frame, enters}
 
 -- before frame k: the reserves of its level and of one level more, a charge that no reserve is above, when a level
@@ -42,6 +42,11 @@ past e fs k ls p =
 pub past_course : (e : ℕ) (fs : List Frame) (k : ℕ) (ls rs : List ℕ) → length fs ≤ k → CourseFrom e fs k ls rs
 unfolding CourseFrom
 past_course e fs k ls rs p = rw (drop_of_length-le fs {i = k} p) tt
+
+-- no reserve is above what the store can take over
+pub weighed_light : {f : At} {l : ℕ} {w v : Weight} → WeighedAt f l w v → f.ceiling - f.inflow < 2 ^ 32 → Light v
+weighed_light weighed fits =
+    record { low_fits = omega (arith, weighed.low_is, fits); high_fits = omega (arith, weighed.high_is, fits) }
 
 -- what a level before frame k reserves there
 module _ {e : ℕ} {fs : List Frame} {k : ℕ} {ls : List ℕ} (w : Weight)

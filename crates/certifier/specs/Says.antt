@@ -1,5 +1,5 @@
 -- What the functions promise, in terms of their structs.
-use Rattle.std.specs.Prelude.{◌≡◌, List, ℕ, ◌+◌, ◌-◌, ◌≤◌, ◌<◌, min, length}
+use Rattle.std.specs.Prelude.{◌≡◌, List, ℕ, ◌+◌, ◌-◌, ◌≤◌, ◌<◌, ◌^◌, min, length}
 use Rattle.model.specs.Frames.{Frame}
 use Rattle.certifier.specs.declared.frame.At.{At}
 use Rattle.certifier.specs.declared.weight.Weight.{Weight}
@@ -19,6 +19,11 @@ frame_count fs = length fs.lists.harvest.now
 -- f is frame i
 abbrev pub ReadIn : Frames → ℕ → At → Type 0
 ReadIn fs i f = Read (frames_in fs) i f.inflow f.ceiling f.drain f.least f.most
+
+-- reserves of 32 bits
+pub record Light (w : Weight) : Type 0 where
+  pub low_fits : w.low < 2 ^ 32
+  pub high_fits : w.high < 2 ^ 32
 
 -- from a frame at level l to what w holds: where the levels differ, the store is empty or full
 pub record TurnedAt (l : ℕ) (w : Weight) (low high : ℕ) : Type 0 where
