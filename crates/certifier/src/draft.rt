@@ -14,7 +14,8 @@ pub struct Draft<'a> {
     pub start: u64,
     pub after: &'a mut [u32],
     pub budgets: &'a mut [u32],
-    pub ghost lent: { Lent frames.rule frames.lists.harvest.now frames.lists.least.now frames.lists.most.now start after.now budgets.now } by { Lent-prop _ _ _ _ _ _ _ },
+    pub ghost lent: { Lent frames.rule frames.lists.harvest.now frames.lists.least.now frames.lists.most.now
+        start after.now budgets.now } by { Lent-prop _ _ _ _ _ _ _ },
 }
 
 impl<'a> Draft<'a> {
@@ -24,6 +25,8 @@ impl<'a> Draft<'a> {
     pub fn by_levels(&mut self) -> bool
         ensures { TriedOn self.old self.new result }
     {
+        // the two passes are lent the lists and are no methods: tried behind `&mut self`, and what is written to one list
+        // was not known to leave the other as it was
         let (after, budgets) = (&mut *self.after, &mut *self.budgets);
         if certify(self.frames, self.start, budgets, after) {
             follow(self.frames, self.start, after, budgets);

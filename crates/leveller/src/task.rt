@@ -13,7 +13,8 @@ use model::Lists;
 pub struct Task<'a> {
     pub frames: Frames<'a>,
     pub start: u64,
-    pub ghost startable: { Startable frames.rule frames.lists.harvest.now frames.lists.least.now frames.lists.most.now start } by { Startable-prop _ _ _ _ _ },
+    pub ghost startable: { Startable frames.rule frames.lists.harvest.now frames.lists.least.now
+        frames.lists.most.now start } by { Startable-prop _ _ _ _ _ },
     pub ghost few: { frame_count frames ≤ max_frames },
 }
 
