@@ -1,16 +1,13 @@
 -- What the parts of the listing say of a request that planning does not refuse, and of one that it does.
-use mathlib.Core.Path.{◌≡◌, refl, sym, ap, ◌∙◌}
-use mathlib.Core.Bool.{Bool, true, false}
+use mathlib.Core.Path.{◌≡◌, refl, ap, ◌∙◌}
+use mathlib.Core.Bool.{true}
 use mathlib.Core.List.{List, [], ◌∷◌, ◌++◌, map}
-use Prim.Native.Nat.{ℕ, ◌-◌, ◌≤◌}
+use Prim.Native.Nat.{ℕ, ◌≤◌}
 use native.Mathlib.Omega.{arith}
 use borrow.Author.Tests.{le-ltb}
-use lib.Dec.{T}
 use lib.IntN.{ℤ, pos}
-use lib.ListN.{length, get_or, take, replicate, length-map, length-take, length-replicate}
-use lib.Signed.{non_neg}
+use lib.ListN.{length}
 use Rattle.model.specs.Refusals.{Refusal}
-use Rattle.model.specs.Choice.{pick}
 use Rattle.model.specs.Limits.{max_frames, max_capacity}
 use Rattle.model.specs.Request.{Request, frame_count}
 use Rattle.model.specs.Refusals as R
@@ -18,7 +15,6 @@ use Rattle.model.specs.Refusals.{is_none, plan_refusal, needed_refusal}
 use Rattle.model.specs.Charge.{charges, losses}
 use Rattle.model.specs.Trace.{trace, trace_losses}
 use Rattle.model.specs.Plan.{plan_of, needed_of}
-use Rattle.model.proofs.Choice.{pick_by}
 use Rattle.model.proofs.First.{first_none, none_first, both_none}
 use Rattle.model.proofs.Requests.{plan_is}
 use Rattle.model.proofs.Trace.{trace_charges, trace_losses_lem, feasible_drawable, feasible_length}
@@ -26,10 +22,9 @@ use Rattle.request.proofs.Within.{plan_within}
 use Rattle.grader.specs.Says.{sums_of}
 use Rattle.grader.specs.declared.Sums.{Sums}
 use Rattle.text.specs.Line.{line_of, lines_of}
-use Rattle.printed.specs.Text.{first_pattern, frame_pattern, worth_pattern, refused_line, frame_rows, plan_text}
-use Rattle.printed.specs.Text.{request_text}
-use Rattle.printed.proofs.Means.{ends_paired, open_reach}
-use Rattle.printed.proofs.FrameLines.{amounts, amounts_pos, pos_non_neg}
+use Rattle.printed.specs.Text.{first_pattern, frame_pattern, worth_pattern, frame_rows, plan_text}
+use Rattle.printed.proofs.Means.{open_reach}
+use Rattle.printed.proofs.FrameLines.{amounts, amounts_pos}
 
 -- what holds of a request that planning with lists of l leasts and m mosts does not refuse
 pub record Accepted (q : Request) (l m : ℕ) : Type 0 where
@@ -75,31 +70,12 @@ accepted q l m n e =
 
 -- its parts: the budgets bs, the charges ys after them and the losses ls
 module _ (q : Request) (l m : ℕ) (w : Accepted q l m) (bs : List ℕ) (b : bs ≡ plan_of q) where
-  pub budgets_long : length bs ≡ frame_count q
-  budgets_long = ap length b ∙ w.budgets
-
-  pub budgets_few : length bs ≤ max_frames
-  budgets_few = rw budgets_long w.few
-
   module _ (ys : List ℤ) (ls : List ℕ) (traced : (ys ≡ trace q bs) × (ls ≡ trace_losses q bs)) where
     charges_are : ys ≡ map pos (charges q (plan_of q))
     charges_are = traced.0 ∙ (ap (trace q) b ∙ w.charges)
 
     losses_are : ls ≡ losses q (plan_of q)
     losses_are = traced.1 ∙ (ap (trace_losses q) b ∙ w.losses)
-
-    pub charges_long : length ys ≡ length bs
-    charges_long =
-        ap length charges_are
-        ∙ (length-map (charges q (plan_of q)) pos
-        ∙ ((ends_paired q (plan_of q) w.budgets).0 ∙ sym (ap length b)))
-
-    pub losses_long : length ls ≡ length bs
-    losses_long = ap length losses_are ∙ ((ends_paired q (plan_of q) w.budgets).1 ∙ sym (ap length b))
-
-    -- none of the charges is below zero
-    pub charges_shown : (i : ℕ) → T (non_neg (get_or ys i (pos 0)))
-    charges_shown i = rw charges_are (pos_non_neg (charges q (plan_of q)) i)
 
     -- the lines of the needed capacity n, of these parts and of their sums s
     pub shown_is : (n : ℕ) (s : Sums) → n ≡ needed_of q → s ≡ sums_of bs →
@@ -110,29 +86,3 @@ module _ (q : Request) (l m : ℕ) (w : Accepted q l m) (bs : List ℕ) (b : bs 
     shown_is n s z d =
         let e : amounts ys ≡ charges q (plan_of q) = ap amounts charges_are ∙ amounts_pos (charges q (plan_of q)) in
         rw (e, losses_are, d, z, b) refl
-
--- the front of a list with room for every frame
-pub part_long : {A : Type 0} (k : ℕ) (v : A) → k ≤ max_frames → length (take (k - 0) (replicate max_frames v)) ≡ k
-part_long k v h = omega (arith, length-take (k - 0) (replicate max_frames v), length-replicate max_frames v)
-
--- ---- refused or not
-
--- lists of leasts and mosts with an entry for each frame
-pub lists_alike : (q : Request) (l m n : ℕ) → l ≡ frame_count q → m ≡ frame_count q →
-    let k = frame_count q in plan_refusal q k k n ≡ plan_refusal q l m n
-lists_alike q l m n e d = rw (e, d) refl
-
-module _ (q : Request) (f : Refusal) (e : let k = frame_count q in f ≡ plan_refusal q k k k) where
-  -- by what its refusal is
-  listed_by : (t : Bool) → is_none f ≡ t → pick t (plan_text q) (refused_line f) ≡ request_text q
-  listed_by t h =
-      let k = frame_count q in
-      let g = plan_refusal q k k k in
-      ap (λ (r : Refusal). pick t (plan_text q) (refused_line r)) e
-      ∙ sym (pick_by (is_none g) t (plan_text q) (refused_line g) (sym (ap is_none e) ∙ h))
-
-  pub listed : is_none f ≡ true → plan_text q ≡ request_text q
-  listed h = listed_by true h
-
-  pub refused : is_none f ≡ false → refused_line f ≡ request_text q
-  refused h = listed_by false h

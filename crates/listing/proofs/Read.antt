@@ -1,12 +1,15 @@
 -- A file that is read has its request's listing, one that is not has the reader's refusal; what listing promises
 -- follows from the text.
-use mathlib.Core.Path.{◌≡◌, refl, sym, ap, ◌∙◌}
+use mathlib.Core.Path.{◌≡◌, refl, sym, ap, subst, ◌∙◌}
 use mathlib.Core.Bool.{true, false}
 use mathlib.Core.List.{List}
-use Prim.Native.Nat.{ℕ, ◌-◌, ◌≤◌}
+use Prim.Native.Nat.{ℕ, ◌≤◌}
 use native.Mathlib.Omega.{arith}
 use lib.ListN.{length, take, drop}
 use lib.Seq.{take_at}
+use Rattle.std.specs.Prelude.{Result, Ok, Err}
+use Rattle.model.specs.declared.refusal.Refusal.{Refusal as Given}
+use Rattle.model.specs.Answer.{told, said}
 use Rattle.model.specs.Refusals.{Refusal}
 use Rattle.model.specs.Lent.{over}
 use Rattle.model.specs.Limits.{max_frames}
@@ -16,41 +19,41 @@ use Rattle.model.proofs.Choice.{pick_by}
 use Rattle.model.proofs.Outcome.{gave, refused}
 use Rattle.words.specs.Words.{words_of}
 use Rattle.wordfile.specs.File.{harvests_in, leasts_in, mosts_in, request_in, read_refusal}
-use Rattle.wordfile.specs.Says.{ReadSays, read_said, read_refused, filled, header_of}
+use Rattle.wordfile.specs.Says.{ReadSays, read_refused, filled, header_of}
 use Rattle.wordfile.proofs.Refused.{read_within, leasts_length, mosts_length}
 use Rattle.wordfile.specs.declared.reader.Header.{Header}
-use Rattle.wordfile.specs.declared.reader.ReadAnswer.{ReadAnswer}
-use Rattle.wordfile.specs.declared.reader.ReadAnswer.TheVariants as Read
 use Rattle.text.specs.Wrote.{Wrote}
 use Rattle.printed.specs.Text.{refused_line, request_text, listing}
 use Rattle.printed.proofs.Fits.{whole_listing}
 use Rattle.printed.proofs.Means.{listing_means}
-use Rattle.listing.specs.Says.{ListSays}
+use Rattle.text.specs.declared.Page.{Page}
+use Rattle.text.specs.Page.{Adds}
+use Rattle.text.proofs.Written.{puts_first}
+use Rattle.listing.specs.Says.{AddsOrRefuses, ListSays}
 
 -- the front of a list that was filled
 front : (n : ℕ) (f : Refusal) (xs ys zs : List ℕ) → zs ≡ filled f xs ys → is_none f ≡ true → n ≡ length xs →
-    take (n - 0) zs ≡ xs
+    take n zs ≡ xs
 front n f xs ys zs e h k =
-    let z : n - 0 ≡ length xs = omega arith in
-    rw (z, e, pick_by (is_none f) true (over xs ys) ys h) (take_at xs (drop (length xs) ys) (length xs) refl)
+    rw (k, e, pick_by (is_none f) true (over xs ys) ys h) (take_at xs (drop (length xs) ys) (length xs) refl)
 
 -- reading the file s with lists h, l and m lent, which have room for every frame, h', l' and m' after it
-module _ {s h l m h' l' m' : List ℕ} {r : ReadAnswer} (w : ReadSays s h l m h' l' m' r)
+module _ {s h l m h' l' m' : List ℕ} {r : Result Header Given} (w : ReadSays s h l m h' l' m' r)
     (room : (length h ≡ max_frames) × (length l ≡ max_frames) × (length m ≡ max_frames)) where
   -- with that room the refusal is the listing's
   same_refusal : read_refused s h l m ≡ read_refusal s max_frames max_frames max_frames
   same_refusal = rw (room.0, room.1, room.2) refl
 
   -- accepted: the frames are few, and with the lists read the request has the file's listing
-  pub is_read : (a : Header) → r ≡ Read.Accepted a →
+  pub is_read : (a : Header) → r ≡ Ok a →
       (a.frames ≤ max_frames)
-      × (request_text (bounded_request a.figures (take (a.frames - 0) h') (take (a.frames - 0) l')
-      (take (a.frames - 0) m')) ≡ listing s)
+      × (request_text (bounded_request a.figures (take a.frames h') (take a.frames l')
+      (take a.frames m')) ≡ listing s)
   is_read a e =
       let q = request_in s in
       let ws = words_of s in
       let f = read_refusal s max_frames max_frames max_frames in
-      let g = gave (read_refused s h l m) (header_of q) a (sym (ap read_said e) ∙ w.answer) in
+      let g = gave (read_refused s h l m) (header_of q) a (sym (ap said e) ∙ w.answer) in
       let n : is_none f ≡ true = ap is_none (sym same_refusal) ∙ g.0 in
       let k : a.frames ≡ length (harvests_in ws) = ap (λ (x : Header). x.frames) g.1 in
       let hs = front a.frames (read_refused s h l m) (harvests_in ws) h h' w.harvest g.0 k in
@@ -65,14 +68,23 @@ module _ {s h l m h' l' m' : List ℕ} {r : ReadAnswer} (w : ReadSays s h l m h'
       )
 
   -- refused: the listing is the refusal's line
-  pub is_unread : (f : Refusal) → r ≡ Read.Refused f → refused_line f ≡ listing s
-  is_unread f e =
+  pub is_unread : (x : Given) → r ≡ Err x → refused_line (told x) ≡ listing s
+  is_unread x e =
+      let f = told x in
       let g = read_refusal s max_frames max_frames max_frames in
-      let p = refused (read_refused s h l m) (header_of (request_in s)) f (sym (ap read_said e) ∙ w.answer) in
+      let p = refused (read_refused s h l m) (header_of (request_in s)) f (sym (ap said e) ∙ w.answer) in
       let k : f ≡ g = p.1 ∙ same_refusal in
       let n : is_none g ≡ false = ap is_none (sym same_refusal) ∙ p.0 in
       ap refused_line k ∙ sym (pick_by (is_none g) false (request_text (request_in s)) (refused_line g) n)
 
--- the text written is all that the promise speaks of
-pub list_says : {s o o' : List ℕ} {n : ℕ} → Wrote (listing s) o o' n → ListSays s o o' n
-list_says {s} {o} {o'} {n} w = record { text = w; whole = λ l. whole_listing s o o' n l w; means = listing_means s }
+-- the same text, told otherwise
+pub same_text : (p q : Page) (r : Result (Unit {0}) Given) {x y : List ℕ} → x ≡ y → AddsOrRefuses x p q r →
+    AddsOrRefuses y p q r
+same_text p q r e w = subst (λ (t : List ℕ). AddsOrRefuses t p q r) e w
+
+-- the text written on an empty page is all that the promise speaks of
+pub list_says : {s o o' : List ℕ} {n : ℕ} (p q : Page) → Adds (listing s) p q → (p.out.now ≡ o) × (p.at ≡ 0) →
+    (o' ≡ q.out.now) × (n ≡ q.at) → ListSays s o o' n
+list_says {s} {o} {o'} {n} p q a b e =
+    let w : Wrote (listing s) o o' n = rw (e.0, e.1) (puts_first (rw (b.0, b.1) at a.puts)) in
+    record { text = w; whole = λ l. whole_listing s o o' n l w; means = listing_means s }
