@@ -1,10 +1,15 @@
 -- The lines of frames, one after the other, as a loop over budgets, charges and losses writes them.
 use mathlib.Core.Path.{◌≡◌, refl, sym, ap, ◌∙◌}
 use mathlib.Core.List.{List, [], ◌∷◌, ◌++◌, map}
-use Prim.Native.Nat.{ℕ, suc, ◌+◌, ◌≤◌, ◌<◌}
+use Prim.Native.Nat.{ℕ, suc, ◌+◌, ◌^◌, ◌≤◌, ◌<◌}
 use native.Mathlib.Omega.{arith}
-use lib.IntN.{ℤ, pos, nat_abs}
+use lib.Dec.{T}
+use lib.IntN.{ℤ, pos, negsuc, nat_abs}
 use lib.ListN.{length, get_or, drop, drop_of_length-le}
+use lib.Signed.{mag, non_neg}
+use mir.Syntax.{w64}
+use mir.Val.{Fits, to_z, of_z}
+use Rattle.model.proofs.Machine.{back}
 use Rattle.std.proofs.lemmas.List.{at_drop_more}
 use Rattle.std.specs.List.{zip, enumerate_from}
 use Rattle.std.specs.Borrow.{Bor}
@@ -89,3 +94,12 @@ rows_are bs zs ls = ap (lines_of frame_pattern) (rows_from 0 bs zs ls)
 pub amounts_pos : (xs : List ℕ) → amounts (map pos xs) ≡ xs
 amounts_pos [] = refl
 amounts_pos (x ∷ xs) = ap (λ (r : List ℕ). x ∷ r) (amounts_pos xs)
+
+-- a charge that is not below zero, read as a signed number of 64 bits, fits an unsigned one
+pub charge_fits : (z : ℤ) → T (non_neg z) → mag z < 2 ^ 63 →
+    T (non_neg (to_z w64 (of_z w64 z))) × Fits w64 (nat_abs (to_z w64 (of_z w64 z)))
+charge_fits z t h = rw (back z h) (t, small z t h)
+  where
+    small : (z : ℤ) → T (non_neg z) → mag z < 2 ^ 63 → Fits w64 (nat_abs z)
+    small (pos n) t h = record { fits = omega arith }
+    small (negsuc n) t h = absurd t

@@ -1,10 +1,11 @@
 -- Text in a lent list: a byte finds room or none, pieces go one behind the other, and a loop writes what is left of a
 -- text.
 use mathlib.Core.Path.{◌≡◌, refl, sym, ap, subst, ◌∙◌}
-use mathlib.Core.List.{List, [], ◌++◌, append_assoc, append-nil}
-use Prim.Native.Nat.{ℕ, ◌+◌, ◌-◌, ◌≤◌, min}
+use mathlib.Core.List.{List, [], ◌∷◌, ◌++◌, append_assoc, append-nil}
+use Prim.Native.Nat.{ℕ, suc, ◌+◌, ◌-◌, ◌≤◌, ◌<◌, min}
 use native.Mathlib.Omega.{arith}
-use lib.ListN.{length, take, drop, length-append, length-take, length-drop}
+use lib.ListN.{length, get_or, set, take, drop, length-append, length-take, length-drop}
+use lib.Seq.{set_at, drop-cons, append_snoc}
 use native.Mathlib.Decide.{dec_le}
 use Rattle.std.proofs.lemmas.List.{take_min, drop_at, drop-drop, take-append-le}
 use Rattle.std.proofs.Math.Seq.{take-nil, take_all, take_at, take-append-add}
@@ -48,6 +49,38 @@ wrote_whole t o o' n l w =
 -- the same text, told otherwise
 pub wrote_same : {s t o o' : List ℕ} {n : ℕ} → s ≡ t → Wrote s o o' n → Wrote t o o' n
 wrote_same {o = o} {o'} {n} e w = subst (λ (x : List ℕ). Wrote x o o' n) e w
+
+-- ---- a byte written on
+
+-- a byte that finds room
+pub byte_put : (o : List ℕ) (n b : ℕ) → n < length o → Puts (b ∷ []) o n (set o n b) (n + 1)
+byte_put o n b l = record { behind = λ t z w. fits t z w }
+  where
+    fits : (t z : List ℕ) → Wrote t z o n → Wrote (t ++ (b ∷ [])) z (set o n b) (n + 1)
+    fits t z w =
+        let k = (wrote_within t z o n w).1 in
+        let f = wrote_front t z o n (omega (arith, w.count)) w in
+        let m = f.0 in
+        let s = t ++ (b ∷ []) in
+        let d : length s ≡ suc (length t) = length-append t (b ∷ []) ∙ omega arith in
+        let e : set o n b ≡ s ++ drop (suc (length t)) z =
+        rw (f.1, m)
+        (ap (λ (x : List ℕ). set (t ++ x) (length t) b) (drop-cons z (length t) 0 (omega arith))
+        ∙ (set_at t (get_or z (length t) 0) (drop (suc (length t)) z) b (length t) refl
+        ∙ sym (append_snoc t b (drop (suc (length t)) z)))) in
+        let g : take (length z) s ≡ s = take_all (length z) s (omega arith) in
+        record { bytes = e ∙ rw (g, d) refl; count = omega arith }
+
+-- a byte that finds none
+pub byte_left_out : (o : List ℕ) (n b : ℕ) → length o ≤ n → Puts (b ∷ []) o n o n
+byte_left_out o n b l = record { behind = λ t z w. full t z w }
+  where
+    full : (t z : List ℕ) → Wrote t z o n → Wrote (t ++ (b ∷ [])) z o n
+    full t z w =
+        let k = (wrote_within t z o n w).1 in
+        let e : take (length z) (t ++ (b ∷ [])) ≡ take (length z) t =
+        take-append-le (length z) t (b ∷ []) (omega (arith, w.count)) in
+        record { bytes = w.bytes ∙ rw e refl; count = omega (arith, length-append t (b ∷ []), w.count) }
 
 -- ---- a text written on
 
@@ -108,6 +141,25 @@ module _ {o : List ℕ} {n : ℕ} where
   puts_then {x} {y} p q =
       record { behind = λ t l w. rw (append_assoc t x y) at (q.behind (t ++ x) l (p.behind t l w)) }
 
+-- ---- what is left of a text
+
+-- of the text x, from n in o on, all is written but y, from n' in o' on
+pub record Leaves (x o : List ℕ) (n : ℕ) (y o' : List ℕ) (n' : ℕ) : Type 0 where
+  pub rest : (l : List ℕ) (m : ℕ) → Puts y o' n' l m → Puts x o n l m
+
+pub leaves_all : (x o : List ℕ) (n : ℕ) → Leaves x o n x o n
+leaves_all x o n = record { rest = λ l m p. p }
+
+module _ {x o y o₁ : List ℕ} {n n₁ : ℕ} where
+  -- its next piece written
+  pub leaves_less : {a z o₂ : List ℕ} {n₂ : ℕ} → Leaves x o n y o₁ n₁ → y ≡ a ++ z → Puts a o₁ n₁ o₂ n₂ →
+      Leaves x o n z o₂ n₂
+  leaves_less f e p = record { rest = λ l m q. f.rest l m (puts_same (sym e) (puts_then p q)) }
+
+  -- nothing left: the text is written
+  pub leaves_none : Leaves x o n y o₁ n₁ → y ≡ [] → Puts x o n o₁ n₁
+  leaves_none f e = f.rest o₁ n₁ (puts_same (sym e) (record { behind = λ t l w. rw append-nil w }))
+
 -- ---- pages
 
 pub adds_same : {x y : List ℕ} {p q : Page} → x ≡ y → Adds x p q → Adds y p q
@@ -116,18 +168,16 @@ adds_same {p = p} {q} e a = subst (λ (t : List ℕ). Adds t p q) e a
 pub adds_then : {x y : List ℕ} {p q r : Page} → Adds x p q → Adds y q r → Adds (x ++ y) p r
 adds_then a b = record { same_list = b.same_list ∙ a.same_list; puts = puts_then a.puts b.puts }
 
--- of the text x, from the page p on, all is written but y, from the page q on
-pub record Leaves (x : List ℕ) (p : Page) (y : List ℕ) (q : Page) : Type 0 where
-  pub rest : (r : Page) → Adds y q r → Adds x p r
+-- of the text x, from the page p on, all is written but y, from the page q on, of the same lent list
+pub record Left (x : List ℕ) (p : Page) (y : List ℕ) (q : Page) : Type 0 where
+  pub same_list : q.out.ghost_name ≡ p.out.ghost_name
+  pub leaves : Leaves x p.out.now p.at y q.out.now q.at
 
 module _ {x y : List ℕ} {p q : Page} where
   -- its next piece written
-  pub leaves_less : {a z : List ℕ} {r : Page} → Leaves x p y q → y ≡ a ++ z → Adds a q r → Leaves x p z r
-  leaves_less f e b = record { rest = λ s c. f.rest s (adds_same (sym e) (adds_then b c)) }
+  pub left_less : {a z : List ℕ} {r : Page} → Left x p y q → y ≡ a ++ z → Adds a q r → Left x p z r
+  left_less f e b = record { same_list = b.same_list ∙ f.same_list; leaves = leaves_less f.leaves e b.puts }
 
   -- nothing left: the text is written
-  pub leaves_none : Leaves x p y q → y ≡ [] → Adds x p q
-  leaves_none f e =
-      f.rest q
-      (adds_same (sym e)
-      (record { same_list = refl; puts = record { behind = λ t l w. rw append-nil w } }))
+  pub left_none : Left x p y q → y ≡ [] → Adds x p q
+  left_none f e = record { same_list = f.same_list; puts = leaves_none f.leaves e }

@@ -5,7 +5,7 @@ use Rattle.text.specs.Line.{line_of}
 use Rattle.printed.specs.Text.{frame_pattern}
 use Rattle.std.proofs.lemmas.List.{length_push}
 use Rattle.std.proofs.lemmas.Iterator.Consumers.{YieldsList-turn, YieldsList-end}
-use Rattle.text.proofs.Written.{leaves_less, leaves_none, adds_same}
+use Rattle.text.proofs.Written.{left_less, left_none, adds_same}
 use Rattle.printed.proofs.FrameLines as law
 use Rattle.printed.proofs.lines.put_frames.Goals as goal
 
@@ -16,7 +16,7 @@ loop-i-preserved c =
     let x = c.in-Some in
     let y = law.goes_over c.into_iter-i-iterator.result a.budgets.now a.charges.now a.losses.now (search rules) in
     let t = YieldsList-turn y l.yielded _ l.yielded_by _ c.next.new.self _ c.in-Some.is c.next.ensures.steps in
-    leaves_less l.invariant (law.lines_more _ _ _ _ t (length_push l.yielded _))
+    left_less l.invariant (law.lines_more _ _ _ _ t (length_push l.yielded _))
     (adds_same
     (ap (λ n. line_of frame_pattern ((x.i + 1) ∷ x.field-0-1-0-0.now ∷ n ∷ x.field-0-1-1.now ∷ []))
     (c.unsigned_abs.ensures.value ∙ ap nat_abs (back x.field-0-1-0-1.now (omega arith)))) c.put_line.ensures)
@@ -28,5 +28,5 @@ returns c =
     let y = law.goes_over c.into_iter-i-iterator.result a.budgets.now a.charges.now a.losses.now (search rules) in
     let t = YieldsList-end y l.yielded _ l.yielded_by _ c.next.new.self c.in-None.is c.next.ensures.steps in
     adds_same (law.rows_are a.budgets.now a.charges.now a.losses.now)
-    (leaves_none l.invariant
+    (left_none l.invariant
     (law.lines_none (length l.yielded) (law.items a.budgets.now a.charges.now a.losses.now) (omega (arith, t.1))))

@@ -9,14 +9,14 @@ use Rattle.text.proofs.Page.put_line.Goals.{then-byte-eq35+in_default, else-byte
 pub loop-byte-preserved-in-Some : goal.loop-byte-preserved-in-Some
 loop-byte-preserved-in-Some c =
     let l = c.loop-byte in
-    law.leaves_less l.invariant
+    law.left_less l.invariant
     (line.at_gap c.args.pattern.now l.left.rest.now l.byte-index (omega arith) c.in-Some.field-0.now
     c.next.new.self.rest.now c.if-byte-eq35.true c.in-Some.ensures.steps) c.put_number.ensures
 
 pub loop-byte-preserved : goal.loop-byte-preserved
 loop-byte-preserved c =
     let l = c.loop-byte in
-    law.leaves_less l.invariant
+    law.left_less l.invariant
     (line.at_byte c.args.pattern.now l.left.rest.now l.byte-index (omega arith) c.if-byte-eq35.left.rest.now
     (elim c.if-byte-eq35.branch [
       | then-byte-eq35+in_default w ↦ let h = w.in_default.ensures.steps in
@@ -27,4 +27,4 @@ loop-byte-preserved c =
 pub returns : goal.returns
 returns c =
     let l = c.loop-byte in
-    law.leaves_none l.invariant (line.at_end c.args.pattern.now l.left.rest.now l.byte-index (omega arith))
+    law.left_none l.invariant (line.at_end c.args.pattern.now l.left.rest.now l.byte-index (omega arith))
