@@ -1,17 +1,19 @@
 -- What refusal 22 lets pass, as facts; the refusals of a recording; and that a recorded shift is a shift.
 use mathlib.Core.Path.{◌≡◌, refl, sym, ap, ◌∙◌}
-use mathlib.Core.Bool.{Bool, true, false, not, false≢true}
+use mathlib.Core.Bool.{Bool, true, false, ◌&&◌, not, false≢true}
 use mathlib.Core.List.{List, [], ◌∷◌}
 use Prim.Native.Nat.{ℕ, suc, ◌+◌, ◌-◌, ◌*◌, ◌≤◌, ◌<◌}
+use native.Mathlib.Numerals.{add-one}
 use native.Mathlib.Omega.{arith}
-use lib.Dec.{eqb, ltb}
-use borrow.Author.Tests.{leb-true, eqb-true, eqb-false, ltb-false, not-false, le-leb, eq-eqb}
+use lib.Dec.{eqb, ltb, leb}
+use borrow.Author.Tests.{leb-true, eqb-true, eqb-false, ltb-false, not-false, le-leb, eq-eqb, ne_eqb, lt-ltb, le-ltb}
 use Rattle.model.specs.Refusals.{Refusal}
 use Rattle.model.specs.Choice.{pick}
 use Rattle.model.specs.Limits.{max_frames, max_harvest, max_capacity}
 use Rattle.model.specs.Refusals.{refusal, none, is_none, first_of}
-use Rattle.model.specs.Charge.{at_hand}
+use Rattle.model.specs.Charge.{at_hand, frame_end}
 use Rattle.model.proofs.Tests.{both}
+use Rattle.model.proofs.Choice.{pick_by}
 use Rattle.model.proofs.First.{first_none}
 use Rattle.request.proofs.Harvest.{harvest_small}
 use Rattle.shift.specs.declared.Terms.{Terms}
@@ -21,10 +23,29 @@ use Rattle.shift.specs.Shift.{are_terms, is_present, is_shift, not_shift, all_re
 use Rattle.shift.specs.Shift.{record_refusal, recorded_by}
 use Rattle.shift.specs.Says.{RecordSays}
 
+-- a test that would bring a contradiction doesn't hold
+pub refuted : (t : Bool) → (t ≡ true → ⊥) → t ≡ false
+refuted true h = absurd (h refl)
+refuted false h = refl
+
 -- a refusal that didn't come: its test doesn't hold
 untested : (t : Bool) (g : Refusal) → is_none g ≡ false → is_none (pick t g none) ≡ true → t ≡ false
 untested true g n e = absurd (false≢true (sym n ∙ e))
 untested false g n e = refl
+
+-- a test at the end of a list
+pub alone : (t : Bool) → t ≡ t && true
+alone true = refl
+alone false = refl
+
+-- two tests, the first of which is known
+pub and_true : (t u : Bool) → t ≡ true → u ≡ t && u
+and_true true u e = refl
+and_true false u e = absurd (false≢true e)
+
+pub and_false : (t u : Bool) → t ≡ false → false ≡ t && u
+and_false true u e = absurd (false≢true (sym e))
+and_false false u e = refl
 
 -- the tests of terms as facts
 pub record TermsHold (k : Terms) : Type 0 where
@@ -49,6 +70,20 @@ terms_hold k e =
       end_low = leb-true _ _ f.0;
     }
 
+-- terms without one of them
+pub no_terms : (k : Terms) → (TermsHold k → ⊥) → false ≡ are_terms k
+no_terms k h = sym (refuted (are_terms k) (λ (e : are_terms k ≡ true). h (terms_hold k e)))
+
+-- terms with all but the last of them
+pub by_end :
+    (k : Terms) → 1 ≤ k.frames → k.frames ≤ max_frames → k.capacity ≤ max_capacity → k.start ≤ k.capacity →
+    leb k.end k.capacity ≡ are_terms k
+by_end k a b c d = rw (le-leb _ _ a, le-leb _ _ b, le-leb _ _ c, le-leb _ _ d) (alone (leb k.end k.capacity))
+
+-- terms with all of them
+pub are_terms_lem : (k : Terms) → TermsHold k → are_terms k ≡ true
+are_terms_lem k h = sym (by_end k h.some h.few h.capacity_low h.start_low) ∙ le-leb _ _ h.end_low
+
 -- the tests of how a shift stands as facts
 pub record PresentHolds (k : Terms) (n : Present) : Type 0 where
   pub within : n.recorded ≤ k.frames
@@ -69,6 +104,22 @@ present_holds k n e =
       balanced = eqb-true _ _ d.0;
     }
 
+-- figures without one of them
+pub no_present : (k : Terms) (n : Present) → (PresentHolds k n → ⊥) → false ≡ is_present k n
+no_present k n h = sym (refuted (is_present k n) (λ (e : is_present k n ≡ true). h (present_holds k n e)))
+
+-- figures with all but the last of them
+pub by_balance :
+    (k : Terms) (n : Present) (t : Bool) → n.recorded ≤ k.frames → n.charge ≤ k.capacity →
+    n.totals.harvested ≤ max_harvest * n.recorded →
+    t ≡ eqb (k.start + n.totals.harvested) (n.charge + n.totals.used + n.totals.lost) → t ≡ is_present k n
+by_balance k n t a b c e = rw (le-leb _ _ a, le-leb _ _ b, le-leb _ _ c, sym e) (alone t)
+
+-- figures with all of them
+pub is_present_lem : (k : Terms) (n : Present) → PresentHolds k n → is_present k n ≡ true
+is_present_lem k n h =
+    sym (by_balance k n true h.within h.charge_low h.harvest_low (sym (eq-eqb _ _ h.balanced)))
+
 -- a record that passes 22
 pub record Sound (s : Shift) : Type 0 where
   pub terms : TermsHold s.terms
@@ -81,10 +132,18 @@ sound_of s e =
 
 pub is_sound : (s : Shift) → Sound s → is_shift s ≡ true
 is_sound s h =
-    let k = h.terms in
-    let n = h.now in
-    rw (le-leb _ _ k.some, le-leb _ _ k.few, le-leb _ _ k.capacity_low, le-leb _ _ k.start_low, le-leb _ _ k.end_low)
-    (rw (le-leb _ _ n.within, le-leb _ _ n.charge_low, le-leb _ _ n.harvest_low, eq-eqb _ _ n.balanced) refl)
+    sym (and_true (are_terms s.terms) (is_present s.terms s.now) (are_terms_lem s.terms h.terms))
+    ∙ is_present_lem s.terms s.now h.now
+
+-- what is left is the loss
+pub loss_left : (s h x u l : ℕ) → x ≤ s + h → u ≤ s + h - x → eqb (s + h - x - u) l ≡ eqb (s + h) (x + u + l)
+loss_left s h x u l p r = go (eqb (s + h - x - u) l) refl
+  where
+    go : (t : Bool) → eqb (s + h - x - u) l ≡ t → t ≡ eqb (s + h) (x + u + l)
+    go true e = let d = eqb-true (s + h - x - u) l e in sym (eq-eqb (s + h) (x + u + l) (omega arith))
+    go false e =
+        let d = eqb-false (s + h - x - u) l e in
+        sym (ne_eqb (s + h) (x + u + l) (λ (q : s + h ≡ x + u + l). d (omega arith)))
 
 -- past 22
 pub past_22 : (s : Shift) (fs : List Refusal) → is_shift s ≡ true → first_of (not_shift s ∷ fs) ≡ first_of fs
@@ -98,12 +157,23 @@ sound_by s e = sound_of s (not-false (is_shift s) (untested (not (is_shift s)) (
 pub open_frame : (k : Terms) (n : Present) → is_none (all_recorded k n) ≡ true → n.recorded ≡ k.frames → ⊥
 open_frame k n e = eqb-false n.recorded k.frames (untested (eqb n.recorded k.frames) (refusal 20 0) refl e)
 
--- no 21 tells that the use is at hand
-use_enough :
-    (k : Terms) (n : Present) (h u : ℕ) → is_none (use_too_great k n h u) ≡ true → u ≤ at_hand k.capacity n.charge h
-use_enough k n h u e =
-    let a = at_hand k.capacity n.charge h in
-    ltb-false a u (untested (ltb a u) (refusal 21 (u - a)) refl e)
+-- 21 by what is at hand: of a use above it, of none other
+module _ (k : Terms) (n : Present) (h u : ℕ) where
+  abbrev hand : ℕ
+  hand = at_hand k.capacity n.charge h
+
+  pub use_above : hand < u → use_too_great k n h u ≡ refusal 21 (u - hand)
+  use_above l = pick_by (ltb hand u) true (refusal 21 (u - hand)) none (lt-ltb hand u l)
+
+  pub use_within : u ≤ hand → use_too_great k n h u ≡ none
+  use_within l = pick_by (ltb hand u) false (refusal 21 (u - hand)) none (le-ltb hand u l)
+
+  pub use_enough : is_none (use_too_great k n h u) ≡ true → u ≤ hand
+  use_enough e = ltb-false hand u (untested (ltb hand u) (refusal 21 (u - hand)) refl e)
+
+  -- no 21 has P 0
+  pub use_none : is_none (use_too_great k n h u) ≡ true → use_too_great k n h u ≡ none
+  use_none e = use_within (use_enough e)
 
 -- what a recording that is not refused has
 pub record Passed (s : Shift) (h u : ℕ) : Type 0 where
@@ -155,3 +225,25 @@ record_says s h u f t e d =
         is_shift s ≡ true → (b : Bool) → is_none (record_refusal s h u) ≡ b → is_shift (pick b (recorded_by s h u) s) ≡ true
     stays i true n = is_sound (recorded_by s h u) (recorded_sound s h u (passed s h u n))
     stays i false n = i
+
+-- the shift that the code makes of the frame rule's two results
+pub recorded_as :
+    (s : Shift) (h u x l : ℕ) →
+    x ≡ (frame_end s.terms.capacity s.now.charge h u).charge →
+    l ≡ (frame_end s.terms.capacity s.now.charge h u).lost →
+    record {
+      terms = s.terms;
+      now =
+          record {
+            recorded = s.now.recorded + 1;
+            charge = x;
+            totals =
+                record {
+                  harvested = s.now.totals.harvested + h;
+                  used = s.now.totals.used + u;
+                  lost = s.now.totals.lost + l;
+                };
+          };
+    }
+    ≡ recorded_by s h u
+recorded_as s h u x l p q = cc (add-one s.now.recorded)

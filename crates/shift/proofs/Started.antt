@@ -52,26 +52,26 @@ started_plan q l m e =
     let w = start_within q l m e in
     plan_is q w.served.figures.start_fits w.served.figures.end_fits w.served.reach
 
--- start's promise: of the shift due, and of a refusal
-pub start_given :
-    (q : Request) (l m : ℕ) (s : Shift) → none ≡ start_refusal q l m → s ≡ started q →
-    StartSays q l m (started_as (Ok s))
-start_given q l m s e d =
+-- start's promise of any shift that is the one due
+pub start_says :
+    (q : Request) (l m : ℕ) (f : Refusal) (s : Shift) → f ≡ start_refusal q l m →
+    s ≡ pick (is_none f) (started q) no_shift → StartSays q l m (record { refusal = f; shift = s })
+start_says q l m f s e d =
     record {
       refusal = e;
-      shift = d ∙ ap (λ (f : Refusal). pick (is_none f) (started q) no_shift) e;
+      shift = d ∙ ap (λ (g : Refusal). pick (is_none g) (started q) no_shift) e;
       is_shift = started_is q l m;
       reachable = started_plan q l m;
       unreachable = λ n. none_feasible q (start_unreachable q l m n);
     }
 
+-- start's promise: of the shift due, and of a refusal
+pub start_given :
+    (q : Request) (l m : ℕ) (s : Shift) → none ≡ start_refusal q l m → s ≡ started q →
+    StartSays q l m (started_as (Ok s))
+start_given q l m s e d = start_says q l m none s e d
+
 pub start_refused :
     (q : Request) (l m : ℕ) (e : Given) → told e ≡ start_refusal q l m → StartSays q l m (started_as (Err e))
 start_refused q l m e p =
-    record {
-      refusal = p;
-      shift = sym (pick_by (is_none (start_refusal q l m)) false (started q) no_shift (ap is_none (sym p) ∙ told_some e));
-      is_shift = started_is q l m;
-      reachable = started_plan q l m;
-      unreachable = λ n. none_feasible q (start_unreachable q l m n);
-    }
+    start_says q l m (told e) no_shift p (sym (pick_by (is_none (told e)) false (started q) no_shift (told_some e)))

@@ -191,6 +191,16 @@ write_within q l m room e =
     }
 
 -- the writer's promise where it refuses
+pub write_refused :
+    (q : Request) (l m : ℕ) (o : List ℕ) (f : Given) → told f ≡ write_refusal q l m (length o) →
+    WriteSays q l m o o (Err f)
+write_refused q l m o f e =
+    let n = told_some f in
+    record {
+      answer = rw (← e, n);
+      bytes = rw (← e, n);
+      reads_back = λ t. absurd (false≢true (sym n ∙ (ap is_none e ∙ t)));
+    }
 
 -- a request's file is not refused in any rooms of at least K
 pub file_read :
