@@ -6,7 +6,7 @@ ghost use Rattle.certifier.specs.Able.{Startable-prop};
 ghost use Rattle.certifier.specs.Says.{frame_count};
 
 use certifier::{Frames, Rule};
-use model::Lists;
+use model::{Lists, Request};
 
 // Frames that can be planned from a start charge, no more of them than there may be.
 #[derive(Clone, Copy)]
@@ -31,5 +31,23 @@ impl<'a> Task<'a> {
             frames: Frames::of(rule, lists),
             start,
         }
+    }
+
+    // A request to be planned as its figures say. No budget is above `energy`, the most of a frame that has no upper end.
+    pub fn of_request(request: Request<'a>, energy: u64) -> Task<'a>
+        requires { Ready request.figures.capacity request.figures.start request.figures.end energy
+            request.lists.harvest.now request.lists.least.now request.lists.most.now }
+        ensures rule { result.frames.rule ≡
+            record { capacity = request.entry.figures.capacity; end = request.entry.figures.end; energy = energy } }
+        ensures lists { result.frames.lists ≡ request.entry.lists }
+        ensures start { result.start ≡ request.entry.figures.start }
+    {
+        let Request { figures, lists } = request;
+        let rule = Rule {
+            capacity: figures.capacity as u64,
+            end: figures.end as u64,
+            energy,
+        };
+        Task::of(rule, lists, figures.start as u64)
     }
 }

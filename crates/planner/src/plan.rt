@@ -5,7 +5,7 @@ ghost use Rattle.model.specs.Refusals.{is_none, plan_refusal};
 ghost use Rattle.model.specs.Plan.{plan_of};
 ghost use Rattle.planner.specs.Says.{PlanSays};
 
-use leveller::{Rule, Task};
+use leveller::Task;
 use model::{Refusal, Request};
 use request::{check_plan, sum};
 
@@ -15,14 +15,8 @@ pub fn write_plan(request: Request, budgets: &mut [u32])
         (length budgets.old)) ≡ true }
     ensures { budgets.new ≡ plan_of (asked request.entry) }
 {
-    let Request { figures, lists } = request;
-    let start = figures.start as u64;
-    let rule = Rule {
-        capacity: figures.capacity as u64,
-        end: figures.end as u64,
-        energy: start + sum(lists.harvest),
-    };
-    Task::of(rule, lists, start).plan_into(budgets);
+    let energy = request.figures.start as u64 + sum(request.lists.harvest);
+    Task::of_request(request, energy).plan_into(budgets);
 }
 
 // Writes the plan of a request; one that is refused leaves the budgets as they are.

@@ -5,7 +5,7 @@ ghost use Rattle.rest.specs.Rest.{Fillable, ending_of, rest_budgets};
 ghost use Rattle.rest.specs.Says.{ended};
 
 use crate::Rest;
-use leveller::{Rule, Task};
+use leveller::Task;
 use model::Request;
 use request::{check_reachable, sum};
 
@@ -25,12 +25,7 @@ pub fn fill(request: Request, budgets: &mut [u32]) -> Rest
         budgets.fill(0);
         return Rest::Short(missing);
     }
-    let start = figures.start as u64;
-    let rule = Rule {
-        capacity: figures.capacity as u64,
-        end: figures.end as u64,
-        energy: start + sum(lists.harvest),
-    };
-    Task::of(rule, lists, start).plan_into(budgets);
+    let energy = figures.start as u64 + sum(lists.harvest);
+    Task::of_request(request, energy).plan_into(budgets);
     Rest::Planned
 }

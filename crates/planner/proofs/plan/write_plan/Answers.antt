@@ -6,8 +6,8 @@ use Rattle.request.proofs.Within.{plan_within}
 use Rattle.planner.proofs.Entries as law
 use Rattle.planner.proofs.plan.write_plan.Goals as goal
 
-pub of-requires : goal.of-requires
-of-requires c =
+pub of_request-requires : goal.of_request-requires
+of_request-requires c =
     let a = c.args.request in
     let l = a.lists in
     let n = length c.args.budgets.now in
@@ -18,9 +18,9 @@ pub plan_into-requires : goal.plan_into-requires
 plan_into-requires c =
     let a = c.args.request in
     let within = plan_within (asked a) (leasts_lent a) (mosts_lent a) (length c.args.budgets.now) c.requires in
-    rw c.of.ensures.1 within.budgets
+    rw c.of_request.ensures.lists within.budgets
 
 pub returns : goal.returns
 returns c =
     law.plan_found (asked c.args.request) c.sum.result c.plan_into.new.budgets c.sum.ensures.is
-    (rw (c.of.ensures.0, c.of.ensures.1, c.of.ensures.2) at c.plan_into.ensures)
+    (rw (c.of_request.ensures.rule, c.of_request.ensures.lists, c.of_request.ensures.start) at c.plan_into.ensures)

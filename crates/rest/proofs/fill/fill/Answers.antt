@@ -15,13 +15,13 @@ returns-in-Err-clause-written c =
     law.fill_short c.args.request q.fillable q.least_len q.most_len c.in-Err.unreachable c.in-Err.ensures
     (length c.args.budgets.now) c.fill.new.self q.budgets_len (c.fill.ensures.after (λ y e. e))
 
-pub of-requires : goal.of-requires
-of-requires c =
+pub of_request-requires : goal.of_request-requires
+of_request-requires c =
     let q = c.requires in
     law.fill_ready c.args.request q.fillable q.least_len q.most_len c.sum.result c.sum.ensures.is c.in_default.ensures
 
 pub plan_into-requires : goal.plan_into-requires
-plan_into-requires c = rw c.of.ensures.1 c.requires.budgets_len
+plan_into-requires c = rw c.of_request.ensures.lists c.requires.budgets_len
 
 pub returns-clause-ending : goal.returns-clause-ending
 returns-clause-ending c =
@@ -32,4 +32,4 @@ pub returns-clause-written : goal.returns-clause-written
 returns-clause-written c =
     let q = c.requires in
     law.fill_full c.args.request q.fillable q.least_len q.most_len c.sum.result c.plan_into.new.budgets c.sum.ensures.is
-    c.in_default.ensures (rw (c.of.ensures.0, c.of.ensures.1, c.of.ensures.2) at c.plan_into.ensures)
+    c.in_default.ensures (rw (c.of_request.ensures.rule, c.of_request.ensures.lists, c.of_request.ensures.start) at c.plan_into.ensures)
