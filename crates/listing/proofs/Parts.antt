@@ -2,11 +2,11 @@
 use mathlib.Core.Path.{◌≡◌, refl, ap, ◌∙◌}
 use mathlib.Core.Bool.{true}
 use mathlib.Core.List.{List, [], ◌∷◌, ◌++◌, map}
-use Prim.Native.Nat.{ℕ, ◌≤◌}
+use Prim.Native.Nat.{ℕ, ◌-◌, ◌≤◌}
 use native.Mathlib.Omega.{arith}
 use borrow.Author.Tests.{le-ltb}
 use lib.IntN.{ℤ, pos}
-use lib.ListN.{length}
+use lib.ListN.{length, take, replicate, length-take, length-replicate}
 use Rattle.model.specs.Refusals.{Refusal}
 use Rattle.model.specs.Limits.{max_frames, max_capacity}
 use Rattle.model.specs.Request.{Request, frame_count}
@@ -86,3 +86,7 @@ module _ (q : Request) (l m : ℕ) (w : Accepted q l m) (bs : List ℕ) (b : bs 
     shown_is n s z d =
         let e : amounts ys ≡ charges q (plan_of q) = ap amounts charges_are ∙ amounts_pos (charges q (plan_of q)) in
         rw (e, losses_are, d, z, b) refl
+
+-- the front of a list with room for every frame
+pub part_long : {A : Type 0} (k : ℕ) (v : A) → k ≤ max_frames → length (take (k - 0) (replicate max_frames v)) ≡ k
+part_long k v h = omega (arith, length-take (k - 0) (replicate max_frames v), length-replicate max_frames v)
