@@ -1,2 +1,3 @@
--- Each entry's answer as C gets it.
+-- What C gets of each entry's answer.
+pub mod Refusal
 pub mod Flat

@@ -1,31 +1,25 @@
 // The needed capacity, for C.
-ghost use Rattle.std.specs.Prelude.{◌≡◌};
-ghost use Rattle.answers.specs.Flat.{needed_flat};
-
-use crate::NONE;
+use crate::EnergyRefusal;
 use model::Refusal;
-use planner::needed::NeededAnswer;
 
 // The needed capacity.
 #[repr(C)]
 #[derive(Clone, Copy)]
 pub struct EnergyNeededAnswer {
-    pub refusal: Refusal,
+    pub refusal: EnergyRefusal,
     pub capacity: u64,
 }
 
-// The planner's answer as C gets it.
-pub fn needed_flat(answer: NeededAnswer) -> EnergyNeededAnswer
-    ensures { result ≡ needed_flat answer }
-{
-    match answer {
-        NeededAnswer::Capacity(capacity) => EnergyNeededAnswer {
-            refusal: NONE,
-            capacity: capacity,
-        },
-        NeededAnswer::Refused(refusal) => EnergyNeededAnswer {
-            refusal: refusal,
-            capacity: 0,
-        },
+impl From<Result<u64, Refusal>> for EnergyNeededAnswer {
+    ghost use Rattle.std.specs.Prelude.{◌≡◌};
+    ghost use Rattle.answers.specs.Flat.{needed_flat};
+
+    ghost from_gives = { λ answer flat. flat ≡ needed_flat answer };
+
+    fn from(answer: Result<u64, Refusal>) -> EnergyNeededAnswer {
+        EnergyNeededAnswer {
+            refusal: EnergyRefusal::of(&answer),
+            capacity: answer.unwrap_or_default(),
+        }
     }
 }

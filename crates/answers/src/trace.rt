@@ -1,51 +1,41 @@
 // The tracer's answer, for C.
-ghost use Rattle.std.specs.Prelude.{◌≡◌};
-ghost use Rattle.answers.specs.Flat.{trace_flat};
-
-use crate::NONE;
+use crate::EnergyRefusal;
 use model::Refusal;
-use tracer::TraceAnswer;
+use tracer::Verdict;
 
 // The verdict, and the frame that it names; 0 where it names none.
 #[repr(C)]
 #[derive(Clone, Copy)]
 pub struct EnergyTraceAnswer {
-    pub refusal: Refusal,
+    pub refusal: EnergyRefusal,
     pub verdict: u32,
     pub frame: u32,
 }
 
-// The verdicts as numbers.
-const FEASIBLE: u32 = 0;
+// The verdicts' numbers.
+#[derive(Clone, Copy)]
+enum Number {
+    Feasible = 0,
+    EndTooLow = 1,
+    BelowZero = 2,
+}
 
-const END_TOO_LOW: u32 = 1;
+impl From<Result<Verdict, Refusal>> for EnergyTraceAnswer {
+    ghost use Rattle.std.specs.Prelude.{◌≡◌};
+    ghost use Rattle.answers.specs.Flat.{trace_flat};
 
-const BELOW_ZERO: u32 = 2;
+    ghost from_gives = { λ answer flat. flat ≡ trace_flat answer };
 
-// The tracer's answer as C gets it.
-pub fn trace_flat(answer: TraceAnswer) -> EnergyTraceAnswer
-    ensures { result ≡ trace_flat answer }
-{
-    match answer {
-        TraceAnswer::Feasible => EnergyTraceAnswer {
-            refusal: NONE,
-            verdict: FEASIBLE,
-            frame: 0,
-        },
-        TraceAnswer::EndTooLow => EnergyTraceAnswer {
-            refusal: NONE,
-            verdict: END_TOO_LOW,
-            frame: 0,
-        },
-        TraceAnswer::BelowZero(frame) => EnergyTraceAnswer {
-            refusal: NONE,
-            verdict: BELOW_ZERO,
-            frame: frame,
-        },
-        TraceAnswer::Refused(refusal) => EnergyTraceAnswer {
-            refusal: refusal,
-            verdict: 0,
-            frame: 0,
-        },
+    fn from(answer: Result<Verdict, Refusal>) -> EnergyTraceAnswer {
+        let (number, frame) = match answer {
+            Ok(Verdict::Feasible) | Err(_) => (Number::Feasible, 0),
+            Ok(Verdict::EndTooLow) => (Number::EndTooLow, 0),
+            Ok(Verdict::BelowZero(frame)) => (Number::BelowZero, frame),
+        };
+        EnergyTraceAnswer {
+            refusal: EnergyRefusal::of(&answer),
+            verdict: number as u32,
+            frame,
+        }
     }
 }

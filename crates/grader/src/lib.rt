@@ -12,7 +12,7 @@ use model::Refusal;
 
 // The sums over a list of budgets on curves 0, 1 and 2. Three fields and no array, since C has them by these names.
 #[repr(C)]
-#[derive(Clone, Copy, PartialEq, Eq, Debug)]
+#[derive(Clone, Copy, Default, PartialEq, Eq, Debug)]
 pub struct Sums {
     pub curve0: u64,
     pub curve1: u64,

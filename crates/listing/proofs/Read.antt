@@ -82,9 +82,11 @@ pub same_text : (p q : Page) (r : Result (Unit {0}) Given) {x y : List ℕ} → 
     AddsOrRefuses y p q r
 same_text p q r e w = subst (λ (t : List ℕ). AddsOrRefuses t p q r) e w
 
--- the text written on an empty page is all that the promise speaks of
-pub list_says : {s o o' : List ℕ} {n : ℕ} (p q : Page) → Adds (listing s) p q → (p.out.now ≡ o) × (p.at ≡ 0) →
+-- the text written is all that the promise speaks of
+pub list_says : {s o o' : List ℕ} {n : ℕ} → Wrote (listing s) o o' n → ListSays s o o' n
+list_says {s} {o} {o'} {n} w = record { text = w; whole = λ l. whole_listing s o o' n l w; means = listing_means s }
+
+-- and so is a text put on an empty page
+pub page_says : {s o o' : List ℕ} {n : ℕ} (p q : Page) → Adds (listing s) p q → (p.out.now ≡ o) × (p.at ≡ 0) →
     (o' ≡ q.out.now) × (n ≡ q.at) → ListSays s o o' n
-list_says {s} {o} {o'} {n} p q a b e =
-    let w : Wrote (listing s) o o' n = rw (e.0, e.1) (puts_first (rw (b.0, b.1) at a.puts)) in
-    record { text = w; whole = λ l. whole_listing s o o' n l w; means = listing_means s }
+page_says p q a b e = list_says (rw (e.0, e.1) (puts_first (rw (b.0, b.1) at a.puts)))

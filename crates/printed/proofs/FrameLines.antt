@@ -2,10 +2,12 @@
 use mathlib.Core.Path.{◌≡◌, refl, sym, ap, ◌∙◌}
 use mathlib.Core.List.{List, [], ◌∷◌, ◌++◌, map}
 use Prim.Native.Nat.{ℕ, suc, ◌+◌, ◌^◌, ◌≤◌, ◌<◌}
+use native.Mathlib.Numerals.{add-one}
 use native.Mathlib.Omega.{arith}
 use lib.Dec.{T}
 use lib.IntN.{ℤ, pos, negsuc, nat_abs}
-use lib.ListN.{length, get_or, drop, drop_of_length-le}
+use lib.ListN.{length, get_or, drop, drop_of_length-le, length-map, get_or-map}
+use lib.Seq.{drop-cons}
 use lib.Signed.{mag, non_neg}
 use mir.Syntax.{w64}
 use mir.Val.{Fits, to_z, of_z}
@@ -29,6 +31,32 @@ use Rattle.printed.specs.Text.{frame_pattern, frame_rows}
 abbrev pub amounts : List ℤ → List ℕ
 amounts zs = map nat_abs zs
 
+-- the lines from a frame on
+abbrev pub lines_from : ℕ → List ℕ → List ℤ → List ℕ → List ℕ
+lines_from i bs zs ls = lines_of frame_pattern (frame_rows (i + 1) (drop i bs) (drop i (amounts zs)) (drop i ls))
+
+-- a frame's line, and those from the next on
+pub lines_more : (i : ℕ) (bs : List ℕ) (zs : List ℤ) (ls : List ℕ) (x : ℕ) → i < length bs →
+    length zs ≡ length bs → length ls ≡ length bs → x ≡ nat_abs (get_or zs i (pos 0)) →
+    lines_from i bs zs ls ≡ line_of frame_pattern ((i + 1) ∷ get_or bs i 0 ∷ x ∷ get_or ls i 0 ∷ [])
+    ++ lines_from (i + 1) bs zs ls
+lines_more i bs zs ls x l e f r =
+    let xs = amounts zs in
+    let v : get_or xs i 0 ≡ x = get_or-map nat_abs zs i (pos 0) ∙ sym r in
+    rw (
+      add-one i,
+      drop-cons bs i 0 l,
+      drop-cons xs i 0 (omega (arith, length-map zs nat_abs)),
+      drop-cons ls i 0 (omega arith),
+      v,
+      add-one (suc i),
+    ) refl
+
+pub lines_none : (i : ℕ) (bs : List ℕ) (zs : List ℤ) (ls : List ℕ) → length bs ≤ i → lines_from i bs zs ls ≡ []
+lines_none i bs zs ls l = rw (drop_of_length-le bs {i = i} l) refl
+
+-- ---- as a loop goes over them
+
 -- a frame's index, budget, charge and loss
 abbrev pub Item : Type 0
 Item = ℕ × ((ℕ × ℤ) × ℕ)
@@ -42,18 +70,18 @@ abbrev pub items : List ℕ → List ℤ → List ℕ → List Item
 items bs zs ls = enumerate_from 0 (zip (zip bs zs) ls)
 
 -- their lines, from a frame on
-abbrev pub lines_from : ℕ → List Item → List ℕ
-lines_from i xs = lines_of frame_pattern (map row (drop i xs))
+abbrev pub items_from : ℕ → List Item → List ℕ
+items_from i xs = lines_of frame_pattern (map row (drop i xs))
 
-pub lines_more : (i j : ℕ) (xs : List Item) (x : Item) → (i < length xs) × (x ≡ get_or xs i x) → j ≡ i + 1 →
-    lines_from i xs ≡ line_of frame_pattern (row x) ++ lines_from j xs
-lines_more i j xs x h e =
+pub items_more : (i j : ℕ) (xs : List Item) (x : Item) → (i < length xs) × (x ≡ get_or xs i x) → j ≡ i + 1 →
+    items_from i xs ≡ line_of frame_pattern (row x) ++ items_from j xs
+items_more i j xs x h e =
     at_drop_more (λ (ys : List Item). lines_of frame_pattern (map row ys)) xs i x h.0
-    ∙ (ap (λ (y : Item). line_of frame_pattern (row y) ++ lines_from (i + 1) xs) (sym h.1)
-    ∙ ap (λ (k : ℕ). line_of frame_pattern (row x) ++ lines_from k xs) (sym e))
+    ∙ (ap (λ (y : Item). line_of frame_pattern (row y) ++ items_from (i + 1) xs) (sym h.1)
+    ∙ ap (λ (k : ℕ). line_of frame_pattern (row x) ++ items_from k xs) (sym e))
 
-pub lines_none : (i : ℕ) (xs : List Item) → length xs ≤ i → lines_from i xs ≡ []
-lines_none i xs l = rw (drop_of_length-le xs {i = i} l) refl
+pub items_none : (i : ℕ) (xs : List Item) → length xs ≤ i → items_from i xs ≡ []
+items_none i xs l = rw (drop_of_length-le xs {i = i} l) refl
 
 -- the loop goes over them
 abbrev pub Going : Type 0
@@ -87,7 +115,7 @@ rows_from n (b ∷ bs) (z ∷ zs) (l ∷ ls) =
     (rows_from (n + 1) bs zs ls ∙ ap (λ (k : ℕ). frame_rows k bs (amounts zs) ls) e)
 
 pub rows_are : (bs : List ℕ) (zs : List ℤ) (ls : List ℕ) →
-    lines_from 0 (items bs zs ls) ≡ lines_of frame_pattern (frame_rows 1 bs (amounts zs) ls)
+    items_from 0 (items bs zs ls) ≡ lines_of frame_pattern (frame_rows 1 bs (amounts zs) ls)
 rows_are bs zs ls = ap (lines_of frame_pattern) (rows_from 0 bs zs ls)
 
 -- the amounts of charges that are none below zero

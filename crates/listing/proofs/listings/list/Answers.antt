@@ -6,5 +6,5 @@ use Rattle.listing.proofs.listings.list.Goals as goal
 pub returns : goal.returns
 returns c =
     let p = c.of-page in
-    law.list_says p.result c.put_listing.new.page c.put_listing.ensures (p.ensures.as_lent, p.ensures.nothing)
+    law.page_says p.result c.put_listing.new.page c.put_listing.ensures (p.ensures.as_lent, p.ensures.nothing)
     (search rules, c.written.ensures)

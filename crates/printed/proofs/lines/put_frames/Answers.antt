@@ -16,7 +16,7 @@ loop-i-preserved c =
     let x = c.in-Some in
     let y = law.goes_over c.into_iter-i-iterator.result a.budgets.now a.charges.now a.losses.now (search rules) in
     let t = YieldsList-turn y l.yielded _ l.yielded_by _ c.next.new.self _ c.in-Some.is c.next.ensures.steps in
-    left_less l.invariant (law.lines_more _ _ _ _ t (length_push l.yielded _))
+    left_less l.invariant (law.items_more _ _ _ _ t (length_push l.yielded _))
     (adds_same
     (ap (λ n. line_of frame_pattern ((x.i + 1) ∷ x.field-0-1-0-0.now ∷ n ∷ x.field-0-1-1.now ∷ []))
     (c.unsigned_abs.ensures.value ∙ ap nat_abs (back x.field-0-1-0-1.now (omega arith)))) c.put_line.ensures)
@@ -29,4 +29,4 @@ returns c =
     let t = YieldsList-end y l.yielded _ l.yielded_by _ c.next.new.self c.in-None.is c.next.ensures.steps in
     adds_same (law.rows_are a.budgets.now a.charges.now a.losses.now)
     (left_none l.invariant
-    (law.lines_none (length l.yielded) (law.items a.budgets.now a.charges.now a.losses.now) (omega (arith, t.1))))
+    (law.items_none (length l.yielded) (law.items a.budgets.now a.charges.now a.losses.now) (omega (arith, t.1))))
