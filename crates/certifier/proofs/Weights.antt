@@ -153,5 +153,5 @@ module _ {e : ℕ} {fs : List Frame} {k : ℕ} {ls : List ℕ} (f : At) (l : ℕ
 
   -- all that the loop keeps
   pub weighed_on : (rs : List ℕ) → k < length rs → CourseFrom e fs (k + 1) ls rs →
-      Holds e fs k ls v.level v.low v.high v.gap × CourseFrom e fs k ls (set rs k v.after)
-  weighed_on rs p c = (weighed_holds, weighed_course rs p c)
+      Light v × Holds e fs k ls v.level v.low v.high v.gap × CourseFrom e fs k ls (set rs k v.after)
+  weighed_on rs p c = (weighed_light weighed read.plain.store_fits, weighed_holds, weighed_course rs p c)

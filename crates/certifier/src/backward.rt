@@ -5,7 +5,7 @@ ghost use Rattle.certifier.specs.Says.{frame_count, TurnedAt, WeighedAt, StartsA
 
 use super::frame::At;
 use super::frames::Frames;
-use super::weight::{TOP, Turned, Weight};
+use super::weight::{Turned, Weight};
 
 // Past the last frame the end charge is reserved at every level.
 fn past(end: u64) -> Weight
@@ -42,7 +42,9 @@ fn turn(level: u64, w: Weight) -> Option<Turned>
     })
 }
 
-// What a frame needs to draw a level and leave a reserve.
+// What a frame needs to draw a level and leave a reserve. That levels and reserves have 32 bits, or 33, is asked of
+// numbers here, below and in `spend`: a level type would be made from each u32 that is read, and the level after it
+// needs a type of its own.
 fn need_of(f: At, level: u64, reserve: u64) -> u64
     requires { (level < 2 ^ 33) × (reserve < 2 ^ 32) }
     ensures { result ≡ f.drain + drawn f.least f.most level + reserve }
@@ -61,7 +63,7 @@ fn before(gap: u64, inflow: u64, need: u64) -> u64
 fn short(level: u64, more: u64, room: u64) -> bool
     ensures { result ≡ false → level + 1 < 2 ^ 32 → room ≤ more }
 {
-    if TOP <= level {
+    if u64::from(u32::MAX) <= level {
         return false;
     }
     more < room
@@ -105,7 +107,8 @@ fn starts(start: u64, w: Weight) -> bool
     true
 }
 
-// Whether the levels are certified; then `after` holds what each reserves after its frame.
+// Whether the levels are certified; then `after` holds what each reserves after its frame. Frames and lists come from
+// different hands here: a struct over both is `Draft`, which lends its parts to this.
 pub fn certify(frames: Frames, start: u64, levels: &[u32], after: &mut [u32]) -> bool
     requires { (length levels.now ≡ frame_count frames) × (frame_count frames ≤ length after.old) }
     ensures { result ≡ true → CertifiedIn frames.entry start levels.now after.new }

@@ -22,14 +22,14 @@ pub struct At {
     pub ghost plain: { Plain inflow ceiling drain least most },
 }
 
-// What a frame with these bounds takes at a level; no other figure of the frame plays a part, so any numbers may be asked.
+// What a frame with these bounds takes at a level, of any numbers: an `At` asks more of its figures than this needs.
 pub fn draw(least: u64, most: u64, level: u64) -> u64
     ensures { result ≡ drawn least most level }
 {
     least.max(most.min(level))
 }
 
-// What the store of a frame with this ceiling and inflow can take over, for any numbers.
+// What the store of a frame with this ceiling and inflow can take over, of any numbers for the same reason.
 pub fn gap(ceiling: u64, inflow: u64) -> u64
     ensures { result ≡ ceiling - inflow }
 {

@@ -34,7 +34,8 @@ impl<'a> Frames<'a> {
         self.lists.harvest.len()
     }
 
-    // Frame i: what is carried in above the capacity is cut off, and the harvest comes on top.
+    // Frame i: what is carried in above the capacity is cut off, and the harvest comes on top. That there is a frame i
+    // is asked here and of those who pass a place on: a type for places would have to hold its frames.
     pub fn at(self, i: usize) -> At
         requires { i < frame_count self }
         ensures { ReadIn self.entry i result }

@@ -9,6 +9,7 @@
 #![tactic(auto)]
 
 mod backward;
+mod bits;
 mod draft;
 mod forward;
 mod frame;
@@ -16,6 +17,7 @@ mod frames;
 mod requirement;
 mod weight;
 
+pub use bits::low_bits;
 pub use draft::Draft;
 pub use frame::{At, Rule, draw, gap};
 pub use frames::Frames;

@@ -5,7 +5,7 @@ ghost use Rattle.certifier.specs.Says.{frames_in, frame_count};
 
 use super::frames::Frames;
 
-// The greatest charge that the budgets require after any frame.
+// The greatest charge that the budgets require after any frame. These are a plan's budgets, read after its `Draft`.
 pub fn peak_requirement(frames: Frames, budgets: &[u32]) -> u64
     requires { (length budgets.now ≡ frame_count frames) × (frame_count frames < 2 ^ 20) }
     ensures { result ≡ peak frames.entry.rule.end (frames_in frames.entry) budgets.now }

@@ -1,9 +1,6 @@
 // What the backward check holds before a frame.
 ghost use Rattle.std.specs.Prelude.{◌<◌, ◌^◌};
 
-// The highest level there is.
-pub const TOP: u64 = 4294967295;
-
 // What the frames from some frame on reserve: at the level of that frame and at one level more, and a charge that no
 // reserve is above. `after` and `above` are what both levels reserve after that frame; `above` is for the contract
 // alone.

@@ -22,7 +22,9 @@ loop-k-preserved c =
     let a = c.args in
     let k : l.k - 1 + 1 ≡ l.k = omega (arith, c.loop-k-test.true) in
     let here : l.k - 1 < frame_count a.frames = omega (arith, c.loop-k-test.true, l.auto.k, c.count-k.ensures) in
+    let on =
     law.weighed_on {e = a.frames.rule.end} {fs = frames_in a.frames} {ls = a.levels.now} c.at.result
     (slice_index_or a.levels.now (l.k - 1) 0) l.w c.in-Some.next
     c.at.ensures (rw k l.invariant.0) c.in-Some.ensures (omega arith) refl l.after
     (omega arith) (rw k l.invariant.1)
+    in (on.1, on.2)
