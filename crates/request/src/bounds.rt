@@ -14,7 +14,8 @@ fn bad_bounds(least: u32, most: u32) -> bool
     least > most || least > MAX_BOUND || (most > MAX_BOUND && most != NO_UPPER_END)
 }
 
-// Refusal 10, whose P is the earliest frame with such bounds; the lists begin with frame number first.
+// Refusal 10, whose P is the earliest frame with such bounds; the lists begin with frame number first. That they are of
+// one length stays a clause, and no `Whole` is asked for: planning the rest lends parts of its lists, with no figures.
 pub fn check_bounds(least: &[u32], most: &[u32], first: u64) -> Result<(), Refusal>
     requires first_bound { first ≤ 2 ^ 32 }
     requires least_len { length least.now ≡ length most.now }

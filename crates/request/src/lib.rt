@@ -10,6 +10,7 @@ mod frames;
 mod reach;
 mod refusals;
 mod sums;
+mod whole;
 
 pub use bounds::check_bounds;
 pub use entries::{check_lent, check_needed, check_plan, check_start, check_trace};
@@ -18,3 +19,4 @@ pub use frames::{check_frames, check_length};
 pub use reach::check_reachable;
 pub use refusals::check_that;
 pub use sums::sum;
+pub use whole::{Whole, check_lists};

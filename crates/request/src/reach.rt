@@ -1,8 +1,8 @@
 // Refusals 9 and 11: whether the end charge is in reach, and whether the leasts taken as budgets are feasible.
 // Figures and harvest stay two parameters, here and in the other files: C lends the two without bounds to tracing, so a
 // struct of them would be no part of `Request`, and be made of its parts at each call.
-// That lists are of one length stays a clause: it is of leasts and mosts here, of leasts and harvests there; one type
-// for all three would ask `check_bounds` for harvests and `check_reachable` for mosts.
+// That two lists are of one length stays a clause of the two functions that look at leasts and harvests: a `Whole` would
+// ask for mosts too.
 ghost use Rattle.std.specs.Prelude.{◌≡◌, ◌+◌, ◌*◌, ◌≤◌, length};
 ghost use Rattle.model.specs.Answer.{refused, asked};
 ghost use Rattle.model.specs.Limits.{max_capacity, max_frames, max_harvest};
@@ -13,6 +13,7 @@ ghost use Rattle.request.specs.Reach.{unreachable_by};
 
 use crate::bounds::check_bounds;
 use crate::refusals::check_that;
+use crate::whole::Whole;
 use model::frame::{at_hand, charge_after};
 use model::{Figures, Refusal, Request};
 
@@ -67,12 +68,11 @@ pub fn check_reachable(figures: Figures, harvest: &[u32], least: &[u32]) -> Resu
     )
 }
 
-// Refusals 10, 9 and 11 of a request. Leasts that 10 lets pass are within the bounds.
-pub fn check_bounded(request: Request) -> Result<(), Refusal>
-    requires least_len { length request.lists.least.now ≡ length request.lists.harvest.now }
-    requires most_len { length request.lists.most.now ≡ length request.lists.harvest.now }
-    ensures { refused result ≡ first_of (bound_refusals (asked request.entry)) }
+// Refusals 10, 9 and 11. Leasts that 10 lets pass are within the bounds.
+pub fn check_bounded(whole: Whole) -> Result<(), Refusal>
+    ensures { refused result ≡ first_of (bound_refusals (asked whole.entry.request)) }
 {
-    check_bounds(request.lists.least, request.lists.most, 1)?;
-    check_reachable(request.figures, request.lists.harvest, request.lists.least)
+    let Request { figures, lists } = whole.request;
+    check_bounds(lists.least, lists.most, 1)?;
+    check_reachable(figures, lists.harvest, lists.least)
 }

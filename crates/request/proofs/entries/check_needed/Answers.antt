@@ -20,7 +20,7 @@ open_store-capacity-requires c =
     let l = leasts_lent a in
     let m = mosts_lent a in
     let lent : LentWithin k l m =
-    lent_within k l m (first_none (lent_refusals k l m) (ap is_none (sym c.in_ok-check_lists.ensures))) in
+    lent_within k l m (first_none (lent_refusals k l m) (ap is_none (sym c.in_ok-check_lists.ensures.refused))) in
     let limits : OpenWithin r = open_within r (first_none (open_limits r) (ap is_none (sym c.in_ok-check_open.ensures))) in
     let few : total r.harvest ≤ max_harvest * max_frames = total_fits r.harvest limits.harvest_fits lent.frames.few in
     (limits.start_small, omega (arith, few, c.sum.ensures.is))
@@ -30,7 +30,7 @@ returns c =
     let a = c.args.request in
     let r = asked a in
     first_passed (lent_refusals (frame_count r) (leasts_lent a) (mosts_lent a)) (open_limits r ++ open_refusals r)
-    c.in_ok-check_lists.ensures refl
+    c.in_ok-check_lists.ensures.refused refl
     (first_passed (open_limits r) (open_refusals r) c.in_ok-check_open.ensures refl
     (c.check_bounded.ensures
     ∙ ap (λ (f : Refusal). first_of (bounds_refused 1 r.bounds ∷ out_of_reach r ∷ f ∷ []))
