@@ -26,7 +26,8 @@ use Rattle.std.specs.Slice.Iter.{iter_rest}
 use Rattle.words.proofs.Lists.{over_zero}
 use Rattle.words.proofs.Bytes.{bytes_length, puts_none, puts_more, puts_length, wrote_more}
 use Rattle.wordfile.specs.Form.{figure_count}
-use Rattle.wordfile.specs.File.{BoundsFit, FramesFit, OneEach, figure_words, least_words, most_words, words_of_frame, words_of_frames}
+use Rattle.request.specs.Each.{OneEach}
+use Rattle.wordfile.specs.File.{BoundsFit, FramesFit, figure_words, least_words, most_words, words_of_frame, words_of_frames}
 use Rattle.wordfile.specs.File.{file_words, file_bytes}
 
 -- ---- lists of bounds

@@ -132,10 +132,6 @@ abbrev pub pithy : List ℕ → List ℕ
 pithy [] = []
 pithy (w ∷ ws) = pick (eqb w (bound_word least_mark 0)) (pithy ws) (w ∷ pithy ws)
 
--- a least and a most for each harvest
-abbrev pub OneEach : List ℕ → List ℕ → List ℕ → Type 0
-OneEach hs ls ms = (length ls ≡ length hs) × (length ms ≡ length hs)
-
 -- figures, a most, the bounds of a frame, and lists of harvests and bounds, that fit their words
 abbrev pub FiguresFit : Figures → Type 0
 FiguresFit f = (f.capacity < 2 ^ 30) × (f.start < 2 ^ 30) × (f.end < 2 ^ 30)

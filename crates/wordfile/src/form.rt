@@ -8,8 +8,8 @@ ghost use Rattle.wordfile.specs.Says.{scanned};
 use model::Refusal;
 use words::{Word, nth};
 
-// The marks of bounds: a least, a most; and a mark above both. Numbers, and no enum: what may follow is what has this
-// mark or a greater one, which an enum would need an order and a successor for.
+// The marks of bounds: a least, a most; and a mark above both. Numbers, and no enum: the definitions' machine counts marks,
+// and `State` is the very record of its definition, which an enum here would change.
 const LEAST: u32 = 4;
 
 const MOST: u32 = 5;

@@ -29,9 +29,9 @@ pub struct Header {
 // Lists lent for the harvests, leasts and mosts of a file.
 #[derive(Drop)]
 struct Room<'a> {
-    pub harvest: &'a mut [u32],
-    pub least: &'a mut [u32],
-    pub most: &'a mut [u32],
+    harvest: &'a mut [u32],
+    least: &'a mut [u32],
+    most: &'a mut [u32],
 }
 
 // Whether so many frames are few enough, and each list has room for them.
@@ -100,7 +100,7 @@ fn frame_at(file: &[u8], i: usize) -> Frame
     let (least, behind) = least_at(file, i + 1);
     Frame {
         harvest: value_at(file, i),
-        least: least,
+        least,
         most: most_at(file, behind),
     }
 }
@@ -160,14 +160,14 @@ pub fn read(
     ensures { ReadSays file.now harvest.old least.old most.old harvest.new least.new most.new result }
 {
     let mut room = Room {
-        harvest: harvest,
-        least: least,
-        most: most,
+        harvest,
+        least,
+        most,
     };
     check_read(file, &room)?;
     let frames = fill(file, &mut room);
     Ok(Header {
         figures: figures_in(file),
-        frames: frames,
+        frames,
     })
 }

@@ -2,94 +2,82 @@
 ghost use Rattle.std.specs.Prelude.{◌≡◌, ◌+◌, ◌*◌, ◌<◌, ◌≤◌, ◌^◌, length, IfOk};
 ghost use Rattle.model.specs.Answer.{asked, leasts_lent, mosts_lent, refused};
 ghost use Rattle.model.specs.Lent.{over};
-ghost use Rattle.model.specs.Limits.{max_frames};
-ghost use Rattle.model.specs.Request.{bounds_of};
 ghost use Rattle.model.specs.Refusals.{first_of};
 ghost use Rattle.words.specs.Puts.{Wrote};
 ghost use Rattle.wordfile.specs.Form.{figure_count};
 ghost use Rattle.wordfile.specs.File.{figure_words, words_of_frames};
 ghost use Rattle.wordfile.specs.File.{file_bytes, content_refusals, write_refusal};
-ghost use Rattle.wordfile.specs.File.{FiguresFit, FramesFit, Fits, OneEach};
+ghost use Rattle.wordfile.specs.File.{FiguresFit, FramesFit, Fits};
 ghost use Rattle.wordfile.specs.Says.{WriteSays};
 
 use crate::form::FIGURE_COUNT;
 use crate::frame::{Frame, frame_size, put_frame};
-use model::{Figures, Lists, Refusal, Request};
-use request::{check_bounds, check_figures, check_lent, check_that};
+use model::{Figures, Refusal, Request};
+use request::{Whole, check_bounds, check_figures, check_lists, check_that};
 use words::{Word, Writer};
 
-// A request with a least and a most for each frame, and with no more frames than a request may have.
-#[derive(Clone, Copy)]
-struct Whole<'a> {
-    request: Request<'a>,
-    ghost one_each: { OneEach request.lists.harvest.now request.lists.least.now request.lists.most.now },
-    ghost few: { length request.lists.harvest.now ≤ max_frames },
+// How many words the frames have.
+fn frames_size(whole: Whole) -> usize
+    ensures is { result ≡ length (words_of_frames (asked whole.entry.request).harvest (asked
+        whole.entry.request).bounds) }
+    ensures below { result < 2 ^ 32 }
+{
+    let lists = whole.request.lists;
+    let mut size: usize = 0;
+    for (least, most) in lists.least.iter().zip(lists.most) {
+        size += frame_size(*least, *most);
+    }
+    size
 }
 
-impl Whole<'_> {
-    // How many words the frames have.
-    fn frames_size(self) -> usize
-        ensures is { result ≡ length (words_of_frames (asked self.entry.request).harvest (asked
-            self.entry.request).bounds) }
-        ensures below { result < 2 ^ 32 }
-    {
-        let lists = self.request.lists;
-        let mut size: usize = 0;
-        for (least, most) in lists.least.iter().zip(lists.most) {
-            size += frame_size(*least, *most);
-        }
-        size
-    }
+// How many bytes the file asks for: the figures, the words of each frame, the end word.
+fn file_size(whole: Whole) -> usize
+    ensures { result ≡ length (file_bytes (asked whole.entry.request)) }
+{
+    4 * (FIGURE_COUNT + frames_size(whole) + 1)
+}
 
-    // How many bytes the file asks for: the figures, the words of each frame, the end word.
-    fn file_size(self) -> usize
-        ensures { result ≡ length (file_bytes (asked self.entry.request)) }
-    {
-        4 * (FIGURE_COUNT + self.frames_size() + 1)
-    }
+// What is refused of what the request holds, written into a list of this room.
+fn check_content(whole: Whole, room: usize) -> Result<(), Refusal>
+    ensures { refused result ≡ first_of (content_refusals (asked whole.entry.request) room) }
+{
+    let lists = whole.request.lists;
+    check_that(file_size(whole) <= room, Refusal::WrongLength)?;
+    check_figures(whole.request.figures, lists.harvest)?;
+    check_bounds(lists.least, lists.most, 1)
+}
 
-    // What is refused of what the request holds, written into a list of this room.
-    fn check_content(self, room: usize) -> Result<(), Refusal>
-        ensures { refused result ≡ first_of (content_refusals (asked self.entry.request) room) }
-    {
-        let lists = self.request.lists;
-        check_that(self.file_size() <= room, Refusal::WrongLength)?;
-        check_figures(self.request.figures, lists.harvest)?;
-        check_bounds(lists.least, lists.most, 1)
+// Puts the words of all frames behind those before them.
+fn put_frames(whole: Whole, writer: &mut Writer)
+    requires fits { FramesFit (asked whole.request).harvest (asked whole.request).bounds }
+    requires room { writer.old.at + 4 * length (words_of_frames (asked whole.request).harvest (asked
+        whole.request).bounds) ≤ length writer.old.out.now }
+    ensures { Wrote (words_of_frames (asked whole.entry.request).harvest (asked whole.entry.request).bounds) writer.old
+        writer.new }
+{
+    let lists = whole.request.lists;
+    for ((harvest, least), most) in lists.harvest.iter().zip(lists.least).zip(lists.most) {
+        let frame = Frame {
+            harvest: *harvest,
+            least: *least,
+            most: *most,
+        };
+        put_frame(writer, frame);
     }
+}
 
-    // Puts the words of all frames behind those before them.
-    fn put_frames(self, writer: &mut Writer)
-        requires fits { FramesFit (asked self.request).harvest (asked self.request).bounds }
-        requires room { writer.old.at + 4 * length (words_of_frames (asked self.request).harvest (asked
-            self.request).bounds) ≤ length writer.old.out.now }
-        ensures { Wrote (words_of_frames (asked self.entry.request).harvest (asked self.entry.request).bounds) writer.old
-            writer.new }
-    {
-        let lists = self.request.lists;
-        for ((harvest, least), most) in lists.harvest.iter().zip(lists.least).zip(lists.most) {
-            let frame = Frame {
-                harvest: *harvest,
-                least: *least,
-                most: *most,
-            };
-            put_frame(writer, frame);
-        }
-    }
-
-    // Puts the file at the front of a list, and answers the place behind its last word.
-    fn put_file(self, out: &mut [u8]) -> usize
-        requires fits { Fits (asked self.request) }
-        requires room { length (file_bytes (asked self.request)) ≤ length out.old }
-        ensures list { out.new ≡ over (file_bytes (asked self.entry.request)) out.old }
-        ensures behind { result ≡ length (file_bytes (asked self.entry.request)) }
-    {
-        let mut writer = Writer { out: out, at: 0 };
-        put_figures(&mut writer, self.request.figures);
-        self.put_frames(&mut writer);
-        writer.put(Word::End(self.request.lists.harvest.len() as u32));
-        writer.at
-    }
+// Puts the file at the front of a list, and answers the place behind its last word.
+fn put_file(whole: Whole, out: &mut [u8]) -> usize
+    requires fits { Fits (asked whole.request) }
+    requires room { length (file_bytes (asked whole.request)) ≤ length out.old }
+    ensures list { out.new ≡ over (file_bytes (asked whole.entry.request)) out.old }
+    ensures behind { result ≡ length (file_bytes (asked whole.entry.request)) }
+{
+    let mut writer = Writer { out, at: 0 };
+    put_figures(&mut writer, whole.request.figures);
+    put_frames(whole, &mut writer);
+    writer.put(Word::End(whole.request.lists.harvest.len() as u32));
+    writer.at
 }
 
 // Puts the words of the figures behind those before them.
@@ -110,10 +98,8 @@ fn check_write<'a>(request: Request<'a>, room: usize) -> Result<Whole<'a>, Refus
         request.entry) room }
     ensures same { IfOk result (λ whole. whole.request ≡ request.entry) }
 {
-    let lists = request.lists;
-    check_lent(lists.harvest.len(), lists.least.len(), lists.most.len())?;
-    let whole = Whole { request: request };
-    whole.check_content(room)?;
+    let whole = check_lists(request)?;
+    check_content(whole, room)?;
     Ok(whole)
 }
 
@@ -123,5 +109,5 @@ pub fn write(request: Request, out: &mut [u8]) -> Result<usize, Refusal>
         result }
 {
     let whole = check_write(request, out.len())?;
-    Ok(whole.put_file(out))
+    Ok(put_file(whole, out))
 }

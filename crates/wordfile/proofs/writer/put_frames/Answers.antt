@@ -1,7 +1,7 @@
 -- Each frame is put in front of those left: `left_wrote`.
 use Rattle.std.proofs.Common.{length, ap, arith}
 use Rattle.wordfile.proofs.Put as law
-use Rattle.wordfile.proofs.writer.Whole.put_frames.Goals as goal
+use Rattle.wordfile.proofs.writer.put_frames.Goals as goal
 
 pub put_frame-requires-clause-fits : goal.put_frame-requires-clause-fits
 put_frame-requires-clause-fits c =

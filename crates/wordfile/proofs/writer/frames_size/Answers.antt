@@ -3,7 +3,7 @@ use Rattle.std.proofs.Common.{length, sym, refl, ap, None, arith}
 use Rattle.std.proofs.lemmas.Iterator.{empty_from_Zip}
 use Rattle.model.specs.Request.{bounds}
 use Rattle.wordfile.proofs.Put as law
-use Rattle.wordfile.proofs.writer.Whole.frames_size.Goals as goal
+use Rattle.wordfile.proofs.writer.frames_size.Goals as goal
 
 pub loop-least-preserved : goal.loop-least-preserved
 loop-least-preserved c =
@@ -22,7 +22,7 @@ loop-least-preserved c =
 pub returns-clause-is : goal.returns-clause-is
 returns-clause-is c =
     let v = c.loop-least.invariant in
-    let lists = c.args.self.request.lists in
+    let lists = c.args.whole.request.lists in
     let none = empty_from_Zip c.loop-least.least-iterator c.next.new.self None refl c.in-None.ensures.steps (sym v.lengths) in
-    let all = law.bounds_size_is lists.harvest.now lists.least.now lists.most.now c.args.self.one_each in
+    let all = law.bounds_size_is lists.harvest.now lists.least.now lists.most.now c.args.whole.one_each in
     omega (arith, v.counted, all, law.no_bounds c.loop-least.least-iterator.b.rest.now none.0)
