@@ -5,8 +5,8 @@ ghost use Rattle.wordfile.specs.Says.{ReadSays, WriteSays};
 ghost use Rattle.energy.specs.Through.{Through};
 ghost use Rattle.answers.specs.Flat.{read_flat, write_flat};
 
-use answers::{EnergyReadAnswer, EnergyWriteAnswer, read_flat, write_flat};
-use model::Figures;
+use answers::{EnergyReadAnswer, EnergyWriteAnswer};
+use model::{Figures, Lists, Request};
 use wordfile::{read, write};
 
 // Reads a file: its harvests, leasts and mosts into the lent lists, what comes before them into the answer.
@@ -22,7 +22,7 @@ pub extern "C" fn energy_read(
         harvest.new least.new most.new)
         read_flat result }
 {
-    read_flat(read(file, harvest, least, most))
+    read(file, harvest, least, most).into()
 }
 
 // Writes the file of a request to the front of the lent list.
@@ -39,5 +39,10 @@ pub extern "C" fn energy_write(
         (length least.now) (length most.now) file.old file.new)
         write_flat result }
 {
-    write_flat(write(figures, harvest, least, most, file))
+    let lists = Lists {
+        harvest,
+        least,
+        most,
+    };
+    write(Request { figures, lists }, file).into()
 }

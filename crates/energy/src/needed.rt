@@ -5,8 +5,8 @@ ghost use Rattle.planner.specs.Says.{NeededSays};
 ghost use Rattle.energy.specs.Through.{Through};
 ghost use Rattle.answers.specs.Flat.{needed_flat};
 
-use answers::{EnergyNeededAnswer, needed_flat};
-use model::Figures;
+use answers::EnergyNeededAnswer;
+use model::{Figures, Lists, Request};
 use planner::needed::needed;
 
 // Gives the needed capacity.
@@ -22,5 +22,10 @@ pub extern "C" fn energy_needed(
         (length least.now) (length most.now))
         needed_flat result }
 {
-    needed_flat(needed(figures, harvest, least, most))
+    let lists = Lists {
+        harvest,
+        least,
+        most,
+    };
+    needed(Request { figures, lists }).into()
 }

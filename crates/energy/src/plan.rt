@@ -5,8 +5,8 @@ ghost use Rattle.planner.specs.Says.{PlanSays};
 ghost use Rattle.energy.specs.Through.{Through};
 ghost use Rattle.answers.specs.Flat.{plan_flat};
 
-use answers::{EnergyPlanAnswer, plan_flat};
-use model::Figures;
+use answers::EnergyPlanAnswer;
+use model::{Figures, Lists, Request};
 use planner::plan::plan;
 
 // Writes the plan into the budgets.
@@ -23,5 +23,11 @@ pub extern "C" fn energy_plan(
         (length least.now) (length most.now) budgets.old budgets.new)
         plan_flat result }
 {
-    plan_flat(plan(figures, harvest, least, most, budgets))
+    // C lends each list for itself, so the request is put together here, and in each call that takes one.
+    let lists = Lists {
+        harvest,
+        least,
+        most,
+    };
+    plan(Request { figures, lists }, budgets).into()
 }

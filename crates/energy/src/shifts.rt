@@ -1,23 +1,23 @@
-// The running shift, for C. Starting and recording answer the struct that the entries answer.
+// The running shift, for C.
 ghost use Rattle.std.specs.Prelude.{length};
 ghost use Rattle.model.specs.Request.{bounded_request};
 ghost use Rattle.shift.specs.Says.{StartSays, RecordSays};
 ghost use Rattle.rest.specs.Rest.{lists};
-ghost use Rattle.rest.specs.Says.{RestSays};
+ghost use Rattle.rest.specs.Says.{PartIs, RestSays};
 ghost use Rattle.energy.specs.Through.{Through};
-ghost use Rattle.answers.specs.Flat.{rest_flat};
-ghost use Rattle.energy.specs.Part.{PartIs, part_flat};
+ghost use Rattle.answers.specs.Flat.{rest_flat, shift_told};
+ghost use Rattle.energy.specs.Part.{part_flat};
 
-use answers::{EnergyRestAnswer, rest_flat};
-use model::{Figures, Refusal};
+use answers::{EnergyRefusal, EnergyRestAnswer, EnergyShiftAnswer};
+use model::{Figures, Lists, Request};
 use rest::{plan_rest, rest_part};
-use shift::{Shift, ShiftAnswer};
+use shift::Shift;
 
 // The part of the budgets that is left: its first entry's index, and its length.
 #[repr(C)]
 #[derive(Clone, Copy)]
 pub struct EnergyPartAnswer {
-    pub refusal: Refusal,
+    pub refusal: EnergyRefusal,
     pub from: usize,
     pub length: usize,
 }
@@ -29,19 +29,24 @@ pub extern "C" fn energy_shift_start(
     harvest: &[u32],
     least: &[u32],
     most: &[u32],
-) -> ShiftAnswer
+) -> EnergyShiftAnswer
     ensures { StartSays (bounded_request figures harvest.now least.now most.now)
-        (length least.now) (length most.now) result }
+        (length least.now) (length most.now) (shift_told result) }
 {
-    shift::start(figures, harvest, least, most)
+    let lists = Lists {
+        harvest,
+        least,
+        most,
+    };
+    shift::start(Request { figures, lists }).into()
 }
 
 // Records the next frame's harvest and use.
 #[unsafe(no_mangle)]
-pub extern "C" fn energy_shift_record(shift: Shift, harvest: u32, used: u32) -> ShiftAnswer
-    ensures { RecordSays shift harvest used result }
+pub extern "C" fn energy_shift_record(shift: Shift, harvest: u32, used: u32) -> EnergyShiftAnswer
+    ensures { RecordSays shift harvest used (shift_told result) }
 {
-    shift.record(harvest, used)
+    EnergyShiftAnswer::recorded(shift, shift.record(harvest, used))
 }
 
 // Plans the frames not yet recorded by the harvests, leasts and mosts lent.
@@ -58,34 +63,32 @@ pub extern "C" fn energy_shift_plan_rest(
         budgets.old budgets.new)
         rest_flat result }
 {
-    rest_flat(plan_rest(shift, harvest, least, most, budgets))
+    let lists = Lists {
+        harvest,
+        least,
+        most,
+    };
+    plan_rest(shift, lists, budgets).into()
 }
 
-// Where the part of the budgets that begins at the next frame lies: an exported function returns no reference.
+// Where the part of the budgets that begins at the next frame lies: an exported function returns no reference. Beside
+// a refusal it is the empty part at their beginning.
 #[unsafe(no_mangle)]
 pub extern "C" fn energy_shift_rest_part(shift: Shift, budgets: &[u32]) -> EnergyPartAnswer
     ensures { Through
         (PartIs shift budgets.now budgets.entry.ref_ptr)
         (part_flat budgets.entry.ref_ptr) result }
 {
-    let mut number: u32 = 0;
-    let mut p: u64 = 0;
-    let part = rest_part(shift, budgets, &mut number, &mut p);
-    let length = part.len();
-    let refusal = Refusal {
-        number: number,
-        p: p,
-    };
-    if number != 0 {
-        return EnergyPartAnswer {
-            refusal: refusal,
+    match rest_part(shift, budgets) {
+        Ok(part) => EnergyPartAnswer {
+            refusal: EnergyRefusal::default(),
+            from: shift.now.recorded as usize,
+            length: part.len(),
+        },
+        Err(refusal) => EnergyPartAnswer {
+            refusal: refusal.into(),
             from: 0,
-            length: length,
-        };
-    }
-    EnergyPartAnswer {
-        refusal: refusal,
-        from: shift.now.recorded as usize,
-        length: length,
+            length: 0,
+        },
     }
 }

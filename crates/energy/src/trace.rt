@@ -4,7 +4,7 @@ ghost use Rattle.tracer.specs.Says.{TraceSays};
 ghost use Rattle.energy.specs.Through.{Through};
 ghost use Rattle.answers.specs.Flat.{trace_flat};
 
-use answers::{EnergyTraceAnswer, trace_flat};
+use answers::EnergyTraceAnswer;
 use model::Figures;
 
 // Writes the charge after each frame and what the frame loses, and judges the budgets.
@@ -21,5 +21,5 @@ pub extern "C" fn energy_trace(
         charges.old charges.new losses.old losses.new)
         trace_flat result }
 {
-    trace_flat(tracer::trace(figures, harvest, budgets, charges, losses))
+    tracer::trace(figures, harvest, budgets, charges, losses).into()
 }
