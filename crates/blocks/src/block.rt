@@ -62,9 +62,9 @@ impl Block {
         let bounds = levels.bounds(from);
         let to = levels.run_end(from, frames.count());
         Block {
-            from: from,
-            to: to,
-            bounds: bounds,
+            from,
+            to,
+            bounds,
             room: room_at(frames, start, levels.lows, from),
             end: end_of(frames, levels.lows, to, bounds.low),
             tries: levels.tries(from),

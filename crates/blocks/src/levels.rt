@@ -22,6 +22,8 @@ impl Bounds {
 }
 
 // Of each frame the lowest and the highest level, and how often it was weighed. Of the lists' lengths nothing is known.
+// They are three lists and not one of three numbers each, since memory is fixed: there is no heap, and a planner lends
+// the lists that other guesses use too, one of which becomes the budgets.
 #[derive(Clone, Copy)]
 pub struct Levels<'a> {
     pub lows: &'a [u32],

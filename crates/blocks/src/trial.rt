@@ -109,7 +109,8 @@ impl Block {
         })
     }
 
-    // A likely level: in turn the mean, the straight way where there is one, the mean, the middle.
+    // A likely level: in turn the mean, the straight way where there is one, the mean, the middle. The turns are told by
+    // number: each is one expression, so that a list of closures for them would be longer.
     fn likely(self, frames: Frames) -> u64 {
         let turn = self.tries % 4;
         if turn == 3 {
@@ -124,10 +125,11 @@ impl Block {
         self.bounds.nearest(self.likely(frames))
     }
 
-    // The level of a block of one frame: what is left for it, and any above its most is as good.
-    pub fn lone(self, f: At) -> u64 {
-        let level = self.room.saturating_sub(f.drain.wrapping_add(self.end));
-        if f.most <= level {
+    // The level of a block of one frame, of which its drain and its most count: what is left for it, and any above its
+    // most is as good.
+    pub fn lone(self, drain: u64, most: u64) -> u64 {
+        let level = self.room.saturating_sub(drain.wrapping_add(self.end));
+        if most <= level {
             return self.bounds.high;
         }
         self.bounds.nearest(level)

@@ -40,7 +40,7 @@ fn reserve_of(f: At, need: u64) -> u64 {
 // What a frame needs at a level and at one more before what comes after it.
 fn needs_of(f: At, level: u64, after: Reserves) -> Needs {
     Needs {
-        level: level,
+        level,
         need: need_of(f, level, after.low),
         more: need_of(f, level.wrapping_add(1), after.high),
     }
@@ -69,7 +69,7 @@ impl Block {
     // one needs.
     pub fn weigh(self, frames: Frames, level: u64, marks: &mut [u32]) -> Needs {
         let mut needs = Needs {
-            level: level,
+            level,
             need: 0,
             more: 0,
         };

@@ -2,6 +2,8 @@
 ghost use Rattle.std.specs.Prelude.{◌≡◌, ◌/◌, ◌%◌, ◌^◌, ◌<◌, ◌↔◌, IsTrue};
 ghost use Rattle.sight.specs.Curves.{Steeper};
 
+use certifier::low_bits;
+
 // How steep a straight way is: so much up in so many frames.
 #[derive(Clone, Copy)]
 pub struct Slope {
@@ -22,6 +24,6 @@ impl Slope {
         ensures { 0 < self.run → result ≡ self.rise / self.run % 2 ^ 32 }
     {
         let level = self.rise.checked_div(self.run).unwrap_or(self.rise);
-        (level & 0xffff_ffff) as u32
+        low_bits(level)
     }
 }

@@ -12,13 +12,14 @@ ghost use Rattle.std.specs.Prelude.{◌<◌};
 ghost use Rattle.certifier.specs.Says.{frame_count};
 
 use blocks::{Block, Bounds, Levels, Needs, Side, end_of};
-use certifier::Frames;
+use certifier::{Frames, low_bits};
 
 // The guess ends after so many steps, settled or not.
 const TURNS: u32 = 1000000;
 
 // Frames and a start charge, and of each frame the lowest and the highest level, and how often it was weighed; while
-// a block is weighed, its frames' marks stand in place of that. Of the lists' lengths nothing is known.
+// a block is weighed, its frames' marks stand in place of that. Of the lists' lengths nothing is known. They are lent
+// apart, since memory is fixed: the lowest levels become the budgets, and the other two are lent to other guesses too.
 #[derive(Drop)]
 struct Splitting<'f, 'l> {
     frames: Frames<'f>,
@@ -26,11 +27,6 @@ struct Splitting<'f, 'l> {
     lows: &'l mut [u32],
     highs: &'l mut [u32],
     tries: &'l mut [u32],
-}
-
-// The low 32 bits.
-fn low_bits(x: u64) -> u32 {
-    (x % 4294967296) as u32
 }
 
 // Writes a number at the first `count` places, or at all that there are.
@@ -58,15 +54,16 @@ fn bounds_on(side: Side, level: u64, bounds: Bounds) -> Bounds {
     }
 }
 
-// Parts a block that was weighed at a level: by its frames' marks writes the new bounds, and over them how often it was
-// weighed. Gives the end of the first part.
+// Parts a block that was weighed at a level, as far as the lists go: by its frames' marks writes the new bounds, and
+// over them how often it was weighed. Gives the end of the first part.
 // The lists come one by one: as a method, which takes the block's part of three fields at once, it is not covered by
 // the borrow checker (tried), and one field after the other in a loop it took a twentieth more instructions.
 fn part(block: Block, level: u64, lows: &mut [u32], highs: &mut [u32], tries: &mut [u32]) -> usize {
+    let to = block.to.min(lows.len()).min(highs.len()).min(tries.len());
     let (Some(lows), Some(highs), Some(tries)) = (
-        lows.get_mut(block.from..block.to),
-        highs.get_mut(block.from..block.to),
-        tries.get_mut(block.from..block.to),
+        lows.get_mut(block.from..to),
+        highs.get_mut(block.from..to),
+        tries.get_mut(block.from..to),
     ) else {
         return block.to;
     };
@@ -74,7 +71,7 @@ fn part(block: Block, level: u64, lows: &mut [u32], highs: &mut [u32], tries: &m
     let mut first = None;
     let mut cut = None;
     let bounds = lows.iter_mut().zip(highs.iter_mut());
-    for ((k, mark), (low, high)) in (block.from..block.to).zip(tries.iter_mut()).zip(bounds) {
+    for ((k, mark), (low, high)) in (block.from..to).zip(tries.iter_mut()).zip(bounds) {
         side = side.next(u64::from(*mark));
         if side != *first.get_or_insert(side) {
             cut = cut.or(Some(k));
@@ -145,7 +142,8 @@ impl<'f, 'l> Splitting<'f, 'l> {
         if self.frames.count() <= block.from {
             return block;
         }
-        let level = block.lone(self.frames.at(block.from));
+        let f = self.frames.at(block.from);
+        let level = block.lone(f.drain, f.most);
         let bounds = Bounds {
             low: level,
             high: level,
@@ -218,11 +216,11 @@ pub fn split_levels(
     fill(highs, count, roof);
     fill(tries, count, 0);
     let mut splitting = Splitting {
-        frames: frames,
-        start: start,
+        frames,
+        start,
         lows: levels,
-        highs: highs,
-        tries: tries,
+        highs,
+        tries,
     };
     let first = splitting.block_at(0);
     splitting.settle_all(first);
