@@ -40,7 +40,7 @@ module _ (a : Asked) (fits : Fillable (asked a))
   ms = a.lists.most.now
 
   -- refusals 9 and 11 as the code finds them are those of the definition
-  found : first_of (unreachable_by a.figures hs ls) ≡ first_of (out_of_reach (asked a) ∷ leasts_refused (asked a) ∷ [])
+  pub found : first_of (unreachable_by a.figures hs ls) ≡ first_of (out_of_reach (asked a) ∷ leasts_refused (asked a) ∷ [])
   found =
       unreachable_is a.figures hs ls ms leasts_long mosts_long
       (ap (all_within (bounds_of ls ms)) (sym (leasts_are hs ls ms leasts_long mosts_long)) ∙ fits.leasts_within)

@@ -120,9 +120,16 @@ module _ (s : Shift) (p : Lists) (b : List ℕ) (clear : is_none (rest_refusal s
       (rest_done a ys (e ∙ ap ending_of k) (d ∙ ap rest_budgets k))
 
 -- the rest as it is lent on
-pub lent_is : (s : Shift) (p : Lists) (a : Lent) →
+pub lent_is : (s : Shift) (p : Lists) →
+    bounded_request (figures s.terms.capacity s.now.charge s.terms.end) (drop s.now.recorded p.harvest)
+    (drop s.now.recorded p.least) (drop s.now.recorded p.most)
+    ≡ rest_request s p
+lent_is s p = refl
+
+-- the same of lists that hold these parts
+pub lent_as : (s : Shift) (p : Lists) (a : Lent) →
     a.harvest.now ≡ drop s.now.recorded p.harvest → a.least.now ≡ drop s.now.recorded p.least →
     a.most.now ≡ drop s.now.recorded p.most →
     bounded_request (figures s.terms.capacity s.now.charge s.terms.end) a.harvest.now a.least.now a.most.now
     ≡ rest_request s p
-lent_is s p a h l m = rw (h, l, m) refl
+lent_as s p a h l m = rw (h, l, m) (lent_is s p)
