@@ -7,18 +7,17 @@ ghost use Rattle.rest.specs.Says.{ended};
 use crate::Rest;
 use leveller::Task;
 use model::Request;
-use request::{check_reachable, sum};
+use request::{Whole, check_reachable, sum};
 
 // Writes the plan, or zeros where by refusal 9 or 11 there is none. What zeros miss of the end charge is P of that
 // refusal.
-pub fn fill(request: Request, budgets: &mut [u32]) -> Rest
-    requires fillable { Fillable (asked request) }
-    requires least_len { length request.lists.least.now ≡ length request.lists.harvest.now }
-    requires most_len { length request.lists.most.now ≡ length request.lists.harvest.now }
-    requires budgets_len { length budgets.old ≡ length request.lists.harvest.now }
-    ensures ending { ended result ≡ ending_of (asked request.entry) }
-    ensures written { budgets.new ≡ rest_budgets (asked request.entry) }
+pub fn fill(whole: Whole, budgets: &mut [u32]) -> Rest
+    requires fillable { Fillable (asked whole.request) }
+    requires budgets_len { length budgets.old ≡ length whole.request.lists.harvest.now }
+    ensures ending { ended result ≡ ending_of (asked whole.entry.request) }
+    ensures written { budgets.new ≡ rest_budgets (asked whole.entry.request) }
 {
+    let request = whole.request;
     let Request { figures, lists } = request;
     if let Err(unreachable) = check_reachable(figures, lists.harvest, lists.least) {
         let missing = unreachable.p();

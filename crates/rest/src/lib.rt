@@ -7,13 +7,15 @@ ghost use Rattle.rest.specs.Says.{PartIs, RestSays, part_as};
 use crate::part::rest_lists;
 use crate::refusals::{check_part, check_rest};
 use model::{Figures, Lists, Refusal, Request};
+use request::Whole;
 use shift::Shift;
 
 mod fill;
 mod part;
 mod refusals;
 
-// How planning the rest ends; short comes with what zero budgets miss of the end charge, which may be nothing.
+// How planning the rest ends; short comes with what zero budgets miss of the end charge, which may be nothing. Shaped like
+// an Option, and none: C and the definitions have both names, and `Some(missing)` would not say that the plan is missing.
 #[derive(Clone, Copy, PartialEq, Eq, Debug)]
 pub enum Rest {
     Planned,
@@ -33,7 +35,10 @@ pub fn plan_rest(shift: Shift, lists: Lists, budgets: &mut [u32]) -> Result<Rest
     };
     let next = shift.now.recorded as usize;
     let lists = rest_lists(lists, next);
-    Ok(fill::fill(Request { figures, lists }, &mut budgets[next..]))
+    let whole = Whole {
+        request: Request { figures, lists },
+    };
+    Ok(fill::fill(whole, &mut budgets[next..]))
 }
 
 // The part of the budgets that begins at the next frame, lying where they lie.

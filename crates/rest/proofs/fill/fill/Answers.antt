@@ -6,19 +6,22 @@ use Rattle.rest.proofs.fill.fill.Goals as goal
 pub returns-in-Err-clause-ending : goal.returns-in-Err-clause-ending
 returns-in-Err-clause-ending c =
     let q = c.requires in
-    law.ends_short c.args.request q.fillable q.least_len q.most_len c.in-Err.unreachable c.in-Err.ensures c.p-missing.result
+    let o = c.args.whole.one_each in
+    law.ends_short c.args.whole.request q.fillable o.0 o.1 c.in-Err.unreachable c.in-Err.ensures c.p-missing.result
     c.p-missing.ensures
 
 pub returns-in-Err-clause-written : goal.returns-in-Err-clause-written
 returns-in-Err-clause-written c =
     let q = c.requires in
-    law.fill_short c.args.request q.fillable q.least_len q.most_len c.in-Err.unreachable c.in-Err.ensures
+    let o = c.args.whole.one_each in
+    law.fill_short c.args.whole.request q.fillable o.0 o.1 c.in-Err.unreachable c.in-Err.ensures
     (length c.args.budgets.now) c.fill.new.self q.budgets_len (c.fill.ensures.after (λ y e. e))
 
 pub of_request-requires : goal.of_request-requires
 of_request-requires c =
     let q = c.requires in
-    law.fill_ready c.args.request q.fillable q.least_len q.most_len c.sum.result c.sum.ensures.is c.in_default.ensures
+    let o = c.args.whole.one_each in
+    law.fill_ready c.args.whole.request q.fillable o.0 o.1 c.sum.result c.sum.ensures.is c.in_default.ensures
 
 pub plan_into-requires : goal.plan_into-requires
 plan_into-requires c = rw c.of_request.ensures.lists c.requires.budgets_len
@@ -26,10 +29,12 @@ plan_into-requires c = rw c.of_request.ensures.lists c.requires.budgets_len
 pub returns-clause-ending : goal.returns-clause-ending
 returns-clause-ending c =
     let q = c.requires in
-    law.ends_full c.args.request q.fillable q.least_len q.most_len c.in_default.ensures
+    let o = c.args.whole.one_each in
+    law.ends_full c.args.whole.request q.fillable o.0 o.1 c.in_default.ensures
 
 pub returns-clause-written : goal.returns-clause-written
 returns-clause-written c =
     let q = c.requires in
-    law.fill_full c.args.request q.fillable q.least_len q.most_len c.sum.result c.plan_into.new.budgets c.sum.ensures.is
+    let o = c.args.whole.one_each in
+    law.fill_full c.args.whole.request q.fillable o.0 o.1 c.sum.result c.plan_into.new.budgets c.sum.ensures.is
     c.in_default.ensures (rw (c.of_request.ensures.rule, c.of_request.ensures.lists, c.of_request.ensures.start) at c.plan_into.ensures)
