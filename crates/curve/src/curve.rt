@@ -2,10 +2,11 @@
 // off.
 ghost use Rattle.std.specs.Prelude.{◌≡◌, ◌*◌, ◌^◌, ◌<◌, ◌≤◌};
 
-use super::knots::{Knot, Knots, low_bits};
+use super::knots::{Knot, Knots};
+use certifier::low_bits;
 
-// An end of the curve: its level, what is reserved or needed there, and by how much that grows for a level between it and
-// the next knot, modulo 2^32.
+// An end of the curve: its level, what is reserved or needed there, and by how much that grows for a level between it
+// and the next knot, modulo 2^32.
 #[derive(Clone, Copy)]
 pub struct End {
     pub level: u64,
@@ -27,18 +28,18 @@ impl End {
     fn growth(self, distance: u64) -> u64
         ensures { 0 < result → 0 < self.step }
     {
-        self.step as u64 * (distance % 4294967296)
+        self.step as u64 * low_bits(distance) as u64
     }
 }
 
-// The curve is 0 below its low end and `full` above its high one. Its knots are at levels from one end to the other, both
-// included. Where no level is between, the high end's is just below the low one's, there is no knot, and all else that the
-// ends have says nothing. Level 0 is never counted and taken for one below the low end: no level is lower, so nobody asks
-// for the reserve there. No level is above the roof.
+// The curve is 0 below its low end and `full` above its high one. Its knots are at levels from one end to the other,
+// both included. Where no level is between, the high end's is just below the low one's, there is no knot, and all else
+// that the ends have says nothing. Level 0 is never counted and taken for one below the low end: no level is lower, so
+// nobody asks for the reserve there. No level is above the roof.
 //
-// What is done at the two ends is no pair of twins: at the low one levels are counted up from a reserve of 0, at the high
-// one down from the full store, and sums stand there for differences. Nothing is promised of any figure, so what does not
-// fit is cut to its low bits, and the guess may be wrong then.
+// What is done at the two ends is no pair of twins: at the low one levels are counted up from a reserve of 0, at the
+// high one down from the full store, and sums stand there for differences. Nothing is promised of any figure, so what
+// does not fit is cut to its low bits, and the guess may be wrong then.
 #[derive(Drop)]
 pub struct Curve<'a> {
     pub roof: u64,
@@ -50,7 +51,8 @@ pub struct Curve<'a> {
 
 impl<'a> Curve<'a> {
     // The curve behind the last frame: the end charge at every level, of which the roof is the last that is counted, so
-    // that its full store is asked of nobody; with the last frame's it is the same for all frames that have one capacity.
+    // that its full store is asked of nobody; with the last frame's it is the same for all frames that have one
+    // capacity.
     pub fn at_end(end: u64, full: u64, roof: u64, knots: Knots<'a>) -> Curve<'a> {
         let low = End {
             level: 1,
@@ -88,7 +90,8 @@ impl<'a> Curve<'a> {
         self.low.level.wrapping_sub(1)
     }
 
-    // Keeps by knots where it leaves 0, in one level, and where it goes on from there; gives its growth above a lower level.
+    // Keeps by knots where it leaves 0, in one level, and where it goes on from there; gives its growth above a lower
+    // level.
     fn keep_low(&mut self, level: u64) -> u32 {
         let start = low_bits(self.low.height);
         let bend = self.low.step.wrapping_sub(start);
@@ -117,7 +120,8 @@ impl<'a> Curve<'a> {
         };
     }
 
-    // Keeps by knots up to where it goes, and where it becomes full, in one level; gives its growth below a higher level.
+    // Keeps by knots up to where it goes, and where it becomes full, in one level; gives its growth below a higher
+    // level.
     fn keep_high(&mut self, level: u64) -> u32 {
         let rest = low_bits(self.full.wrapping_sub(self.high.height));
         let bend = rest.wrapping_sub(self.high.step);
@@ -146,8 +150,8 @@ impl<'a> Curve<'a> {
         };
     }
 
-    // Begins it behind the last level that needs no more than there is. At a level as much as the height is left, and up to
-    // knot i, or to the last level where there is none, the need grows by the step.
+    // Begins it behind the last level that needs no more than there is. At a level as much as the height is left, and
+    // up to knot i, or to the last level where there is none, the need grows by the step.
     fn begin(&mut self, i: usize, at: End)
         requires { (0 < at.step) × (i ≤ self.old.knots.end) }
     {
@@ -190,9 +194,9 @@ impl<'a> Curve<'a> {
         self.knots.clear();
     }
 
-    // Ends it at the last level that needs less than the ceiling, at which `full` would be reserved. At a level the need is
-    // by the height above the ceiling, and down to knot i - 1, or to the first level where there is none, it falls by the
-    // step.
+    // Ends it at the last level that needs less than the ceiling, at which `full` would be reserved. At a level the
+    // need is by the height above the ceiling, and down to knot i - 1, or to the first level where there is none, it
+    // falls by the step.
     fn finish(&mut self, i: usize, at: End, full: u64)
         requires { (0 < at.step) × (self.old.knots.first ≤ i) × (i ≤ self.old.knots.end) }
     {
@@ -208,7 +212,8 @@ impl<'a> Curve<'a> {
         self.knots.end = i;
     }
 
-    // Leaves out the levels that need the ceiling, at which `full` would be reserved; its last level needs `excess` more.
+    // Leaves out the levels that need the ceiling, at which `full` would be reserved; its last level needs `excess`
+    // more.
     pub fn narrow_high(&mut self, excess: u64, full: u64) {
         let mut at = End {
             height: excess,

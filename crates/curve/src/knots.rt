@@ -2,15 +2,11 @@
 // shrinks at both ends; where an end of the list is reached, knots are lost, and the guess may be wrong then.
 ghost use Rattle.std.specs.Prelude.{◌≡◌, ◌+◌, ◌<◌, ◌≤◌, length};
 
+use certifier::low_bits;
 use model::limits::MAX_FRAMES;
 
 // How many moves of knots there may be: 128 for each frame of the most that a request has.
 const MOVES: usize = 128 * MAX_FRAMES;
-
-// The low 32 bits.
-pub fn low_bits(x: u64) -> u32 {
-    (x % 4294967296) as u32
-}
 
 // A level, of which the low 32 bits count, and the change of the growth there, modulo 2^32.
 #[derive(Clone, Copy, Default)]
@@ -44,7 +40,8 @@ impl Knot {
     }
 }
 
-// The knots are list[first..end]; for new ones between them others were moved so often.
+// The knots are list[first..end]; for new ones between them others were moved so often. The list is lent and its ends
+// stand beside it, since memory is fixed: there is no heap for a deque.
 #[derive(Drop)]
 pub struct Knots<'a> {
     pub list: &'a mut [Knot],
@@ -106,10 +103,11 @@ impl<'a> Knots<'a> {
         }
     }
 
-    // The next two are no twins: one frees a place below the first knot and goes up, the other one above the last and goes
-    // down. Both move knots as they search, four at a time as long as there are four, which counts by hand. Where the
-    // bounds of all frames are close, the curve takes 35 % more instructions by `partition_point` and `copy_within`, and
-    // 44 % more by one knot at a time: both miss what docs/BENCHMARKS.md says of such plans, the dearest that there are.
+    // The next two are no twins: one frees a place below the first knot and goes up, the other one above the last and
+    // goes down. Both move knots as they search, four at a time as long as there are four, which counts by hand. Where
+    // the bounds of all frames are close, the curve takes 35 % more instructions by `partition_point` and
+    // `copy_within`, and 44 % more by one knot at a time: both miss what docs/BENCHMARKS.md says of such plans, the
+    // dearest that there are.
 
     // Puts a knot before all that are not below it; those below it go down by one place.
     fn insert_from_first(&mut self, knot: Knot)

@@ -2,10 +2,11 @@
 //
 // The reserve of a level is 0 at low levels and the full store at high ones, and between it grows from one level to the
 // next by as much as the frames behind draw more. One pass from behind keeps that curve by its knots, the levels at
-// which its growth changes: a frame adds what it draws, which begins to grow at its least and stops at its most; what it
-// has is taken off; and what is then below 0 or above the full store is cut off. A frame's level depends on the level
-// before it and on two levels of the curve alone: where the reserve is 0 up to a higher level, it rises to that one,
-// and where it is full from a lower one on, it falls to just below that. So a pass from the front finds all levels.
+// which its growth changes: a frame adds what it draws, which begins to grow at its least and stops at its most; what
+// it has is taken off; and what is then below 0 or above the full store is cut off. A frame's level depends on the
+// level before it and on two levels of the curve alone: where the reserve is 0 up to a higher level, it rises to that
+// one, and where it is full from a lower one on, it falls to just below that. So a pass from the front finds all
+// levels.
 //
 // Most knots are written and met near an end of the curve. Where many lie between, a new one has many others moved;
 // there is an allowance for that, and where it is used up, no more are put in and the guess is given up.
@@ -13,9 +14,9 @@ ghost use Rattle.std.specs.Prelude.{◌≡◌, ◌<◌, ◌≤◌, length};
 ghost use Rattle.certifier.specs.Says.{frame_count};
 
 use super::curve::Curve;
-use super::knots::{Knot, Knots, low_bits};
+use super::knots::{Knot, Knots};
 use super::pass::Passed;
-use certifier::Frames;
+use certifier::{Frames, low_bits};
 
 // Frame k as the curve passes it.
 fn passed(frames: Frames, k: usize) -> Passed
@@ -36,8 +37,8 @@ fn roof_of(frames: Frames) -> u64 {
     frames.rule.energy + 1
 }
 
-// Draws the curve from behind, and writes for each frame the last level at which the reserve before it is 0, and the last
-// at which it is not full. Says whether the allowance sufficed.
+// Draws the curve from behind, and writes for each frame the last level at which the reserve before it is 0, and the
+// last at which it is not full. Says whether the allowance sufficed.
 fn draw_curve(
     frames: Frames,
     start: u64,
@@ -75,8 +76,8 @@ fn draw_curve(
     !curve.knots.are_given_up()
 }
 
-// Writes the levels over the lowest ones: each is the level before it, or the nearest between its two. A level at the roof
-// is the top: whoever draws the most there refuses nothing more.
+// Writes the levels over the lowest ones: each is the level before it, or the nearest between its two. A level at the
+// roof is the top: whoever draws the most there refuses nothing more.
 fn choose(roof: u32, lows: &mut [u32], highs: &[u32]) {
     let mut level = 0u32;
     for (low, high) in lows.iter_mut().zip(highs.iter()) {
@@ -86,8 +87,8 @@ fn choose(roof: u32, lows: &mut [u32], highs: &[u32]) {
 }
 
 // Writes the levels at which the curve leaves 0 or becomes full where the levels turn. Says whether it was not
-// given up; `highs` and `knots` are scratch. They are three lists, since memory is fixed: the levels stand in the list that
-// becomes the budgets, and the other two are lent by whoever has room, also to other guesses.
+// given up; `highs` and `knots` are scratch. They are three lists, since memory is fixed: the levels stand in the list
+// that becomes the budgets, and the other two are lent by whoever has room, also to other guesses.
 pub fn curve_levels(
     frames: Frames,
     start: u64,

@@ -4,8 +4,8 @@ ghost use Rattle.std.specs.Prelude.{◌≤◌};
 use super::curve::{Curve, End};
 use super::knots::Knot;
 
-// A frame that the curve passes: what it has even after an empty store, which is never above its ceiling, and its bounds as
-// they are lent. So where it has no upper end, its most is above every level, which that of an `At` is not.
+// A frame that the curve passes: what it has even after an empty store, which is never above its ceiling, and its
+// bounds as they are lent. So where it has no upper end, its most is above every level, which that of an `At` is not.
 #[derive(Clone, Copy)]
 pub struct Passed {
     pub has: u64,
@@ -105,8 +105,8 @@ impl<'a> Curve<'a> {
         let (high, high_knot) = self.drawn_high(f);
         self.low = low;
         self.high = high;
-        // One call for both, so that a compiler puts it into the pass. By `into_iter().flatten()` the curve takes 37 % more
-        // instructions, and a plan with bounds more than 1.5 times those of one without.
+        // One call for both, so that a compiler puts it into the pass. By `into_iter().flatten()` the curve takes 37 %
+        // more instructions, and a plan with bounds more than 1.5 times those of one without.
         for knot in [low_knot, high_knot] {
             if let Some(knot) = knot {
                 self.knots.insert(knot);

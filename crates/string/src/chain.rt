@@ -1,4 +1,5 @@
 // The string as far as it is drawn, and the chains of points behind it that it may turn at.
+use certifier::low_bits;
 use sight::{Apex, Point, Side};
 
 // The string as far as it is sure, to its apex: the frames before that have their levels. In those behind it stands
@@ -18,11 +19,6 @@ pub struct Chain<'a> {
     frames: &'a mut [u32],
     first: usize,
     end: usize,
-}
-
-// The low 32 bits: what does not fit is cut, and the guess may be wrong then.
-fn low_bits(x: u64) -> u32 {
-    (x & 0xffff_ffff) as u32
 }
 
 impl<'a> Drawn<'a> {
@@ -80,8 +76,8 @@ impl<'a> Chain<'a> {
         self.end = self.end.wrapping_add(1);
     }
 
-    // Takes the points at the end away that the way to a new one passes by. Inlined, so that the compiler knows the side
-    // at each call: a quarter fewer instructions where the harvest is random.
+    // Takes the points at the end away that the way to a new one passes by. Inlined, so that the compiler knows the
+    // side at each call: a quarter fewer instructions where the harvest is random.
     #[inline(always)]
     pub fn tighten(&mut self, drawn: &Drawn, point: Point) {
         let first = self.first;
