@@ -8,8 +8,8 @@ use lib.ListN.{length}
 use Rattle.std.proofs.Common.{Result, Ok, Err}
 use Rattle.model.specs.declared.refusal.Refusal.{Refusal as Given}
 use Rattle.model.specs.Answer.{told, said}
-use Rattle.model.proofs.Answer.{told_some, said_value, said_refusal}
-use Rattle.model.specs.Refusals.{Refusal, none}
+use Rattle.model.proofs.Answer.{told_some, said_refusal}
+use Rattle.model.specs.Refusals.{Refusal}
 use Rattle.model.specs.Choice.{pick}
 use Rattle.model.specs.declared.Figures.{Figures}
 use Rattle.model.specs.Request.{Request, bounded_request, leasts, total}
@@ -75,12 +75,12 @@ plan_refused q l m bs e p =
     }
 
 -- not refused: the plan is written
-pub plan_given : (q : Request) (l m : ℕ) (bs bs' : List ℕ) → none ≡ plan_refusal q l m (length bs) →
-    bs' ≡ plan_of q → PlanSays q l m bs bs' (Ok tt)
-plan_given q l m bs bs' p b =
+pub plan_given : (q : Request) (l m : ℕ) (bs bs' : List ℕ) (f : Refusal) → f ≡ plan_refusal q l m (length bs) →
+    is_none f ≡ true → bs' ≡ plan_of q → PlanSays q l m bs bs' (Ok tt)
+plan_given q l m bs bs' f p h b =
     record {
-      answer = said_value tt p;
-      budgets = b ∙ ap (λ (g : Refusal). pick (is_none g) (plan_of q) bs) p;
+      answer = rw (← p, h);
+      budgets = b ∙ subst (λ (g : Refusal). plan_of q ≡ pick (is_none g) (plan_of q) bs) p (rw h refl);
       plan = λ k. rw b (accepted_plan q l m (length bs) k);
       no_plan = λ k. none_feasible q (plan_unreachable q l m (length bs) k);
     }
@@ -136,5 +136,6 @@ needed_says q l m r a =
 pub needed_refused : (q : Request) (l m : ℕ) (e : Given) → told e ≡ needed_refusal q l m → NeededSays q l m (Err e)
 needed_refused q l m e p = needed_says q l m (Err e) (said_refusal e (needed_of q) p)
 
-pub needed_given : (q : Request) (l m c : ℕ) → none ≡ needed_refusal q l m → c ≡ needed_of q → NeededSays q l m (Ok c)
-needed_given q l m c p b = needed_says q l m (Ok c) (ap gives b ∙ said_value (needed_of q) p)
+pub needed_given : (q : Request) (l m c : ℕ) (f : Refusal) → f ≡ needed_refusal q l m → is_none f ≡ true →
+    c ≡ needed_of q → NeededSays q l m (Ok c)
+needed_given q l m c f p h b = needed_says q l m (Ok c) (ap gives b ∙ rw (← p, h))

@@ -11,7 +11,7 @@ use lib.ListN.{length, get_or}
 use borrow.Author.Tests.{leb-false}
 use Rattle.model.specs.Choice.{pick}
 use Rattle.model.specs.Request.{Request, frame_count}
-use Rattle.model.specs.Refusals.{none, gives, refuses, is_none, trace_refusal}
+use Rattle.model.specs.Refusals.{gives, refuses, is_none, trace_refusal}
 use Rattle.model.specs.Trace.{below_zero, end_too_low, is_feasible, below_from, last_from, trace, verdict, EarliestBelow}
 use Rattle.model.specs.Trace.{trace_losses}
 use Rattle.model.proofs.Trace as model
@@ -98,11 +98,10 @@ too_low_of q bs ys u p =
 
 -- where nothing is refused, the charges and losses of the trace and the verdict that the charges earn keep the promise
 pub traced : (q : Request) (bs : List ℕ) (xs ys : List ℤ) (ls ms : List ℕ) (v : Answered) →
-    none ≡ trace_refusal q (length bs) (length xs) (length ls) →
+    is_none (trace_refusal q (length bs) (length xs) (length ls)) ≡ true →
     ys ≡ trace q bs → ms ≡ trace_losses q bs → v ≡ judged q.figures.end ys → TraceSays q bs xs ys ls ms (Ok v)
-traced q bs xs ys ls ms v f p o e =
+traced q bs xs ys ls ms v n p o e =
     let g = trace_refusal q (length bs) (length xs) (length ls) in
-    let n : is_none g ≡ true = ap is_none (sym f) in
     let w = trace_within q (length bs) (length xs) (length ls) n in
     let u : verdict_said v ≡ verdict q bs =
     ap verdict_said e ∙ ap (λ (zs : List ℤ). verdict_said (judged q.figures.end zs)) p

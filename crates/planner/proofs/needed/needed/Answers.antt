@@ -1,7 +1,8 @@
 -- Refused: the refusal that was found is the definition's. Otherwise the inner function gives the definition's
 -- capacity.
-use Rattle.std.proofs.Common.{rules, ◌≡◌, Err}
+use Rattle.std.proofs.Common.{rules, ◌≡◌, refl, Err}
 use Rattle.model.specs.Answer.{asked, leasts_lent, mosts_lent}
+use Rattle.model.specs.Refusals.{none}
 use Rattle.planner.proofs.Entries as law
 use Rattle.planner.proofs.needed.needed.Goals as goal
 
@@ -15,5 +16,5 @@ returns-in_err-check_needed c =
 pub returns : goal.returns
 returns c =
     let a = c.args.request in
-    law.needed_given (asked a) (leasts_lent a) (mosts_lent a) c.needed_capacity.result c.in_ok-check_needed.ensures
-    c.needed_capacity.ensures
+    law.needed_given (asked a) (leasts_lent a) (mosts_lent a) c.needed_capacity.result none
+    c.in_ok-check_needed.ensures refl c.needed_capacity.ensures

@@ -1,7 +1,8 @@
 -- Refused: the refusal that was found is the definition's, and nothing is written. Otherwise the inner function
 -- writes the plan.
-use Rattle.std.proofs.Common.{rules, ◌≡◌, Err}
+use Rattle.std.proofs.Common.{rules, ◌≡◌, refl, Err}
 use Rattle.model.specs.Answer.{asked, leasts_lent, mosts_lent}
+use Rattle.model.specs.Refusals.{none}
 use Rattle.planner.proofs.Entries as law
 use Rattle.planner.proofs.plan.plan.Goals as goal
 
@@ -17,4 +18,4 @@ pub returns : goal.returns
 returns c =
     let a = c.args.request in
     law.plan_given (asked a) (leasts_lent a) (mosts_lent a) c.args.budgets.now c.write_plan.new.budgets
-    c.in_ok-check_plan.ensures c.write_plan.ensures
+    none c.in_ok-check_plan.ensures refl c.write_plan.ensures
