@@ -9,6 +9,7 @@ ghost use Rattle.std.specs.Prelude.{◌≡◌, List, ℕ, ◌-◌, ◌≤◌, le
 ghost use Rattle.printed.specs.Text.{listing_bytes, listing};
 ghost use Rattle.plan.specs.Read.{BeginsWith, ReadWithin};
 
+use crate::failure::Failure;
 use model::limits::MAX_FILE_BYTES;
 use printed::LISTING_BYTES;
 use std::io;
@@ -18,42 +19,31 @@ use std::process::ExitCode;
 // One byte more than a file may have is enough to refuse it, so no more is read.
 const INPUT_BYTES: usize = MAX_FILE_BYTES + 1;
 
-// What reading brought: so many bytes, or a failure.
-#[derive(Clone, Copy)]
-pub enum Input {
-    Bytes(usize),
-    Failed(io::Error),
-}
-
 // Reads once, to behind the bytes that the list has already, which it keeps; no bytes at the end of the input.
-fn read_on(mut stdin: Stdin, file: &mut [u8], have: usize) -> Input
+fn read_on(mut stdin: Stdin, file: &mut [u8], have: usize) -> io::Result<usize>
     requires { have ≤ length file.old }
     ensures kept { take have file.new ≡ take have file.old }
     ensures within { ReadWithin result (length file.old - have) }
 {
     let part = &mut file[have..];
-    match stdin.read(part) {
-        Ok(n) => Input::Bytes(n),
-        Err(error) => Input::Failed(error),
-    }
+    stdin.read(part)
 }
 
-// Reads standard input to its end, or until the list is full.
-fn read_input(stdin: Stdin, file: &mut [u8; INPUT_BYTES]) -> Input
+// Reads standard input to its end, or until the list is full, and answers how many bytes that were. List and number
+// stay two: what a file begins with is told by the room of the list (BeginsWith), which a part of it does not have.
+fn read_input(stdin: Stdin, file: &mut [u8; INPUT_BYTES]) -> io::Result<usize>
     ensures { ReadWithin result (length file.new) }
 {
     let mut have: usize = 0;
+    // No iterator says how often the input has to be asked: std's readers that go on to its end want a heap.
     while have < file.len() {
-        let brought = read_on(stdin, file, have);
-        let Input::Bytes(n) = brought else {
-            return brought;
-        };
+        let n = read_on(stdin, file, have)?;
         if n == 0 {
             break;
         }
         have += n;
     }
-    Input::Bytes(have)
+    Ok(have)
 }
 
 // Writes the listing of a file whose first bytes were read, as many as the list has room for, n of them, into a text
@@ -85,14 +75,17 @@ fn show(stdout: Stdout, file: &[u8; INPUT_BYTES], n: usize) -> io::Result<()>
     hand_over(stdout, &text[0..r], file, n)
 }
 
-fn main(rt: HostRuntime) -> ExitCode {
+// Reads the file and prints its listing.
+fn run(rt: &HostRuntime) -> Result<(), Failure> {
     let mut file = [0u8; INPUT_BYTES];
-    let input = read_input(rt.stdin(), &mut file);
-    match input {
-        Input::Bytes(n) => match show(rt.stdout(), &file, n) {
-            Ok(()) => ExitCode::SUCCESS,
-            Err(error) => failure::tell(rt.stderr(), "standard output", error),
-        },
-        Input::Failed(error) => failure::tell(rt.stderr(), "standard input", error),
+    let n = read_input(rt.stdin(), &mut file).map_err(Failure::Input)?;
+    show(rt.stdout(), &file, n).map_err(Failure::Output)
+}
+
+fn main(rt: HostRuntime) -> ExitCode {
+    if let Err(failure) = run(&rt) {
+        let _ = rt.stderr().println(format_args!("plan: {failure}"));
+        return ExitCode::FAILURE;
     }
+    ExitCode::SUCCESS
 }
