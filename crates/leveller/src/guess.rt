@@ -1,4 +1,7 @@
-// The guesses at the levels, each certified and followed, or left.
+// The guesses at the levels, each certified and followed, or left. Each answers a plain yes or no, for `||`: after a no
+// there is scratch for the next guess in the lists, and an Option would have nothing to hold. Draft and marks are two
+// parameters: certifier's `Draft` is made without marks, which no certificate reads, and a struct around both would be
+// taken apart in each guess, which writes levels and marks at once.
 ghost use Rattle.std.specs.Prelude.{true, ◌<◌, ◌^◌};
 ghost use Rattle.certifier.specs.Draft.{TriedOn};
 
@@ -44,7 +47,8 @@ fn by_curve(draft: &mut Draft, marks: &mut [u32], knots: &mut [Knot]) -> bool
     )
 }
 
-// The same with a list for so many knots. The list is an array: memory is fixed, and there is no heap.
+// The same with a list for so many knots. The list is an array: memory is fixed, and there is no heap. They are two
+// functions, since a closure in one with a const parameter leaves a goal that was not proved (tried).
 pub fn by_curve_of<const KNOTS: usize>(draft: &mut Draft, marks: &mut [u32]) -> bool
     requires { KNOTS < 2 ^ 32 }
     ensures { TriedOn draft.old draft.new result }

@@ -2,7 +2,7 @@
 // are bounded, the mean of what the others leave. Many requests have no other level. Where the store runs dry or
 // overflows at it in the first frames, as before a sunrise, it is not worth a certificate.
 
-use certifier::Frames;
+use certifier::{Frames, draw, low_bits};
 use model::Lists;
 use model::limits::NO_UPPER_END;
 
@@ -24,11 +24,6 @@ pub fn is_bounded(lists: Lists) -> bool {
 // What each of n has of a; all of it where there is none.
 fn over(a: u64, n: u64) -> u64 {
     a.checked_div(n).unwrap_or(a)
-}
-
-// The low 32 bits, as a level.
-fn low_bits(x: u64) -> u32 {
-    (x % 4294967296) as u32
 }
 
 // All that comes in, less what is drained.
@@ -58,8 +53,7 @@ fn lasts_at_first(frames: Frames, start: u64, level: u64) -> bool {
     true
 }
 
-// What there is to draw until the end. Frames and start charge stay two parameters here and below: in a draft they lie
-// beside the lists that are lent with them, and the guesses of other crates take both as well.
+// What there is to draw until the end. Frames and start charge are two parameters, as at certifier's `Draft`.
 fn to_draw(frames: Frames, start: u64) -> u64 {
     start
         .wrapping_add(brought(frames))
@@ -108,7 +102,9 @@ fn drawn_at(lists: Lists, level: u32) -> Drawn {
     lists.least.iter().zip(lists.most).fold(
         Drawn::default(),
         |d, (least, most)| Drawn {
-            sum: d.sum.wrapping_add((*least).max((*most).min(level)) as u64),
+            sum: d
+                .sum
+                .wrapping_add(draw(*least as u64, *most as u64, level as u64)),
             free: d
                 .free
                 .wrapping_add((*least <= level && level < *most) as u64),

@@ -19,9 +19,9 @@ use search::search_all;
 const DAY: usize = 128;
 
 // How many knots the curve may have: four for each frame.
-const DAY_KNOTS: usize = 512;
+const DAY_KNOTS: usize = 4 * DAY;
 
-const MAX_KNOTS: usize = 2688;
+const MAX_KNOTS: usize = 4 * MAX_FRAMES;
 
 // The plan by the guesses that suit the frames.
 fn by_guesses(draft: &mut Draft, marks: &mut [u32]) -> bool
@@ -50,7 +50,9 @@ fn plan_with(draft: &mut Draft, marks: &mut [u32])
     search_all(draft.frames, draft.start, draft.budgets);
 }
 
-// The same with lists for N frames. They are arrays: memory is fixed, and there is no heap.
+// The same with lists for N frames. They are arrays: memory is fixed, and there is no heap. The task and the budgets
+// come from different hands, the one before there is a `Draft`, which is a struct over both; so their lengths are asked
+// here.
 fn plan_in<const N: usize>(task: Task, budgets: &mut [u32])
     requires { (length budgets.old ≡ frame_count task.frames) × (frame_count task.frames ≤ N) × (N ≤ max_frames) }
     ensures { PlannedIn task.entry.frames task.entry.start budgets.new }

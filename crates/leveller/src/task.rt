@@ -33,7 +33,8 @@ impl<'a> Task<'a> {
         }
     }
 
-    // A request to be planned as its figures say. No budget is above `energy`, the most of a frame that has no upper end.
+    // A request to be planned as its figures say. No budget is above `energy`, the most of a frame that has no upper
+    // end.
     pub fn of_request(request: Request<'a>, energy: u64) -> Task<'a>
         requires { Ready request.figures.capacity request.figures.start request.figures.end energy
             request.lists.harvest.now request.lists.least.now request.lists.most.now }

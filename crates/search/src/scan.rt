@@ -5,7 +5,8 @@ ghost use Rattle.search.specs.Search.{ScannedAt};
 
 use certifier::Frames;
 
-// Whether the level goes on from the charge at the frames from `from` on.
+// Whether the level goes on from the charge at the frames from `from` on. Its size is asked of a number, as certifier's
+// `need_of` does: a type for levels would be made anew from every difference that is tried.
 pub fn scan(frames: Frames, from: usize, charge: u64, level: u64) -> bool
     requires { (charge ≤ 2 ^ 33) × (level < 2 ^ 33) × (from ≤ frame_count frames) }
     ensures { ScannedAt frames.entry from charge level result }

@@ -41,7 +41,8 @@ fn search(place: Place) -> u64
     at.good
 }
 
-// Writes the plan's budgets.
+// Writes the plan's budgets. Frames and list come apart: a struct over both is `Draft`, which lends them here and has a
+// list for reserves besides, which a search does not need.
 pub fn search_all(frames: Frames, start: u64, budgets: &mut [u32])
     requires { Startable frames.rule frames.lists.harvest.now frames.lists.least.now frames.lists.most.now start ×
         (length budgets.old ≡ frame_count frames) }
