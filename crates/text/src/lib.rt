@@ -5,12 +5,13 @@ ghost use Rattle.std.specs.Prelude.{◌≡◌, ◌≤◌, length};
 ghost use Rattle.text.specs.Decimal.{decimal};
 ghost use Rattle.text.specs.Line.{line_of};
 
-// A lent list that is written from its front on, and the place behind what is written.
+// A lent list that is written on, and the place behind what is written: with no heap, the list is the caller's, and of
+// fixed length, so no Vec keeps the place. Not words' `Writer`, which asks for room: a page cuts off what has none.
 #[derive(Drop)]
 pub struct Page<'a> {
-    out: &'a mut [u8],
-    at: usize,
-    ghost within: { at ≤ length out.now },
+    pub out: &'a mut [u8],
+    pub at: usize,
+    pub ghost within: { at ≤ length out.now },
 }
 
 impl<'a> Page<'a> {

@@ -1,4 +1,5 @@
-// A word taken apart at bit N and put together: a tag from that bit on, and the rest below it.
+// A word taken apart at bit N and put together: a tag from that bit on, and the rest below it. That N is below 32 is a
+// clause of each of the three: a const parameter has a type, u32, and no bound, and no type holds it otherwise.
 ghost use Rattle.std.specs.Prelude.{◌≡◌, ◌+◌, ◌*◌, ◌/◌, ◌%◌, ◌^◌, ◌<◌};
 
 // The bits of a word from bit N on.
