@@ -12,7 +12,7 @@ use model::{Lists, Refusal, Request};
 use planner::needed::needed_capacity;
 use planner::plan::write_plan;
 use printed::lines::{put_first, put_frames, put_refused, put_worth};
-use request::check_plan;
+use request::{Whole, check_plan};
 use text::Page;
 use tracer::fill;
 use wordfile::read;
@@ -47,12 +47,11 @@ fn put_plan(
     put_worth(page, sums.curve0, sums.curve1, sums.curve2);
 }
 
-// Puts the listing of a request, its lists of one length, unless its plan is refused.
-fn put_request(page: &mut Page<'_>, request: Request) -> Result<(), Refusal>
-    requires least_len { length request.lists.least.now ≡ length request.lists.harvest.now }
-    requires most_len { length request.lists.most.now ≡ length request.lists.harvest.now }
-    ensures { AddsOrRefuses (request_text (asked request.entry)) page.old page.new result }
+// Puts the listing of a request whose lists are of one length, unless its plan is refused.
+fn put_request(page: &mut Page<'_>, whole: Whole) -> Result<(), Refusal>
+    ensures { AddsOrRefuses (request_text (asked whole.entry.request)) page.old page.new result }
 {
+    let request = whole.request;
     let k = request.lists.harvest.len();
     check_plan(request, k)?;
     // Fixed memory, with room for every frame: there is no heap.
@@ -84,13 +83,11 @@ fn put_file(page: &mut Page<'_>, file: &[u8]) -> Result<(), Refusal>
         least: &least[..k],
         most: &most[..k],
     };
-    put_request(
-        page,
-        Request {
-            figures: header.figures,
-            lists,
-        },
-    )
+    let figures = header.figures;
+    let whole = Whole {
+        request: Request { figures, lists },
+    };
+    put_request(page, whole)
 }
 
 // Puts what the plan program prints of a word file: its listing, or the line of the refusal.
