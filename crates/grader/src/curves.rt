@@ -12,16 +12,19 @@ pub struct Curve {
     gains: [u64; 5],
 }
 
+// Most for the first units, half as much in each band after it.
 pub const CURVE_0: Curve = Curve {
     edges: [100, 300, 700, 1500],
     gains: [16, 8, 4, 2, 1],
 };
 
+// More than curve 0 for the first units, and nothing above its last edge.
 pub const CURVE_1: Curve = Curve {
     edges: [50, 200, 800, 2000],
     gains: [24, 12, 3, 1, 0],
 };
 
+// Wide bands, each a little less than the one before it.
 pub const CURVE_2: Curve = Curve {
     edges: [1000, 2000, 4000, 8000],
     gains: [5, 4, 3, 2, 1],
@@ -41,6 +44,7 @@ impl Curve {
             sum += *gain * all.min(*to).saturating_sub(from);
             from = *to;
         }
+        // Above the last edge, the last gain: the one that has no edge to go with.
         sum + self.gains[4] * all.saturating_sub(from)
     }
 

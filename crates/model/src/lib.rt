@@ -17,7 +17,7 @@ pub struct Figures {
     pub end: u32,
 }
 
-// Lists that are to hold a harvest, a least and a most for each frame; of their lengths nothing is known.
+// A harvest, a least and a most for each frame, in three lists since C lends each by itself; no length is known.
 #[derive(Clone, Copy)]
 pub struct Lists<'a> {
     pub harvest: &'a [u32],

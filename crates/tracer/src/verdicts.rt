@@ -6,7 +6,7 @@ ghost use Rattle.tracer.specs.Says.{judged};
 use crate::Verdict;
 
 // The verdict on the charges of at least one frame, with the end charge that the last has to reach: the earliest below
-// zero among all but the last is named.
+// zero among all but the last is named. How long the list is, is a clause: see `fill`.
 pub fn judge(end: u32, charges: &[i64]) -> Verdict
     requires in_bounds { 1 ≤ length charges.now }
     requires charges_len_bound { length charges.now ≤ max_frames }
