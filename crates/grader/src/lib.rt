@@ -19,8 +19,8 @@ pub struct Sums {
     pub curve2: u64,
 }
 
-// The three sums of no more budgets than a request has frames: a clause here and in `Curve::grade`, and no type, since the
-// check just before the call tells it of a list that is lent, and the list is used this once.
+// The three sums of no more budgets than a request has frames: a clause here and in `Curve::grade`, and no type, since
+// the check just before the call tells it of a list that is lent, and the list is used this once.
 pub fn sums_of(budgets: &[u32]) -> Sums
     requires { length budgets.now ≤ max_frames }
     ensures { result ≡ sums_of budgets.now }

@@ -21,8 +21,8 @@ pub enum Verdict {
 }
 
 // Writes the charge after each frame of the budgets and what the frame loses, and gives the verdict. A refusal alters
-// nothing. Figures and harvest stay two parameters: C lends them so, without the bounds of a `Request`; charges and losses
-// too, each a list that C has for itself.
+// nothing. Figures and harvest stay two parameters: C lends them so, without the bounds of a `Request`; charges and
+// losses too, each a list that C has for itself.
 pub fn trace(
     figures: Figures,
     harvest: &[u32],

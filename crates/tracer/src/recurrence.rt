@@ -8,8 +8,8 @@ use model::Figures;
 use model::frame::{TracedEnd, frame_end};
 
 // Charge and loss of each frame, from a start charge within the capacity: so no loss is above its frame's harvest. The
-// lists' lengths are clauses, here and in `judge`, and no type: the check just before the call tells them of lists that are
-// lent apart, and each is used this once, so that a type would be made of the lists for a single call.
+// lists' lengths are clauses, here and in `judge`, and no type: the check just before the call tells them of lists that
+// are lent apart, and each is used this once, so that a type would be made of the lists for a single call.
 pub fn fill(
     figures: Figures,
     harvest: &[u32],

@@ -5,8 +5,8 @@ ghost use Rattle.words.specs.Puts.{Wrote};
 
 use crate::word::Word;
 
-// A lent list, and the place behind the words put into it: with no heap, the list is the caller's, and of fixed length, so
-// no Vec keeps the place. Not text's `Page`, which cuts off what it has no room for: a word is put whole, so room is asked.
+// A lent list, and the place behind the words put into it: with no heap, the list is the caller's and of fixed length,
+// and no Vec keeps the place. Not text's `Page`, which cuts off what has no room: a word is put whole, so room is asked.
 #[derive(Drop)]
 pub struct Writer<'a> {
     pub out: &'a mut [u8],
