@@ -35,6 +35,13 @@ fn fill(list: &mut [u32], count: usize, x: u32) {
     list[..count].fill(x);
 }
 
+// Writes a number at a place; nothing outside.
+fn put(list: &mut [u32], i: usize, x: u64) {
+    if let Some(place) = list.get_mut(i) {
+        *place = low_bits(x);
+    }
+}
+
 // The bounds of a frame on a side of a level that was tried in a block.
 fn bounds_on(side: Side, level: u64, bounds: Bounds) -> Bounds {
     let Bounds { low, high } = bounds;
@@ -52,36 +59,6 @@ fn bounds_on(side: Side, level: u64, bounds: Bounds) -> Bounds {
             high,
         },
     }
-}
-
-// Parts a block that was weighed at a level, as far as the lists go: by its frames' marks writes the new bounds, and
-// over them how often it was weighed. Gives the end of the first part.
-// The lists come one by one: as a method, which takes the block's part of three fields at once, it is not covered by
-// the borrow checker (tried), and one field after the other in a loop it took a twentieth more instructions.
-fn part(block: Block, level: u64, lows: &mut [u32], highs: &mut [u32], tries: &mut [u32]) -> usize {
-    let to = block.to.min(lows.len()).min(highs.len()).min(tries.len());
-    let (Some(lows), Some(highs), Some(tries)) = (
-        lows.get_mut(block.from..to),
-        highs.get_mut(block.from..to),
-        tries.get_mut(block.from..to),
-    ) else {
-        return block.to;
-    };
-    let mut side = Side::Level;
-    let mut first = None;
-    let mut cut = None;
-    let bounds = lows.iter_mut().zip(highs.iter_mut());
-    for ((k, mark), (low, high)) in (block.from..to).zip(tries.iter_mut()).zip(bounds) {
-        side = side.next(u64::from(*mark));
-        if side != *first.get_or_insert(side) {
-            cut = cut.or(Some(k));
-        }
-        let bounds = bounds_on(side, level, block.bounds);
-        *low = low_bits(bounds.low);
-        *high = low_bits(bounds.high);
-        *mark = low_bits(block.tries.wrapping_add(1));
-    }
-    cut.unwrap_or(block.to)
 }
 
 impl<'f, 'l> Splitting<'f, 'l> {
@@ -103,12 +80,26 @@ impl<'f, 'l> Splitting<'f, 'l> {
 
     // Writes the bounds of a frame.
     fn bound(&mut self, k: usize, bounds: Bounds) {
-        if let Some(low) = self.lows.get_mut(k) {
-            *low = low_bits(bounds.low);
+        put(self.lows, k, bounds.low);
+        put(self.highs, k, bounds.high);
+    }
+
+    // Parts a block that was weighed at a level: by its frames' marks writes the new bounds, and over them how often it
+    // was weighed. Gives the end of the first part. The frames are counted, and no parts of the lists zipped: one list
+    // may end before another one.
+    fn part(&mut self, block: Block, level: u64) -> usize {
+        let mut side = Side::Level;
+        let mut first = None;
+        let mut cut = None;
+        for k in block.from..block.to {
+            side = side.next(u64::from(self.tries.get(k).copied().unwrap_or(0)));
+            if side != *first.get_or_insert(side) {
+                cut = cut.or(Some(k));
+            }
+            self.bound(k, bounds_on(side, level, block.bounds));
+            put(self.tries, k, block.tries.wrapping_add(1));
         }
-        if let Some(high) = self.highs.get_mut(k) {
-            *high = low_bits(bounds.high);
-        }
+        cut.unwrap_or(block.to)
     }
 
     // The first part of a block that was parted before frame `cut`, and what its first frame needed.
@@ -133,7 +124,7 @@ impl<'f, 'l> Splitting<'f, 'l> {
     fn divide(&mut self, block: Block) -> Block {
         let level = block.level_to_try(self.frames);
         let needs = block.weigh(self.frames, level, self.tries);
-        let cut = part(block, level, self.lows, self.highs, self.tries);
+        let cut = self.part(block, level);
         self.first_part(block, needs, cut)
     }
 
