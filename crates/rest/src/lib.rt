@@ -14,8 +14,8 @@ mod fill;
 mod part;
 mod refusals;
 
-// How planning the rest ends; short comes with what zero budgets miss of the end charge, which may be nothing. Shaped like
-// an Option, and none: C and the definitions have both names, and `Some(missing)` would not say that the plan is missing.
+// How planning the rest ends; short comes with what zero budgets miss of the end charge, which may be nothing. No
+// Option: C and the definitions have both names, and `Some(missing)` would not say that the plan is missing.
 #[derive(Clone, Copy, PartialEq, Eq, Debug)]
 pub enum Rest {
     Planned,
