@@ -109,8 +109,8 @@ impl Block {
         })
     }
 
-    // A likely level: in turn the mean, the straight way where there is one, the mean, the middle. The turns are told by
-    // number: each is one expression, so that a list of closures for them would be longer.
+    // A likely level: in turn the mean, the straight way where there is one, the mean, the middle. The turns are told
+    // by number: each is one expression, so that a list of closures for them would be longer.
     fn likely(self, frames: Frames) -> u64 {
         let turn = self.tries % 4;
         if turn == 3 {
