@@ -11,7 +11,6 @@ ghost use Rattle.text.specs.Line.{line_of};
 pub struct Page<'a> {
     pub out: &'a mut [u8],
     pub at: usize,
-    pub ghost within: { at ≤ length out.now },
 }
 
 impl<'a> Page<'a> {
@@ -37,6 +36,9 @@ impl<'a> Page<'a> {
     fn put(&mut self, text: &[u8])
         ensures { Adds text.now self.old self.new }
     {
+        if self.out.len() <= self.at {
+            return;
+        }
         let n = text.len().min(self.out.len() - self.at);
         let end = self.at + n;
         self.out[self.at..end].copy_from_slice(&text[..n]);
