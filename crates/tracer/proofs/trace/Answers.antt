@@ -1,19 +1,10 @@
 -- Past the tests nothing is refused: charges and losses are the trace's, and the verdict on the charges is the
 -- definition's.
-use Rattle.std.proofs.Common.{rules, ◌≡◌, sym, ap, Err}
+use Rattle.std.proofs.Common.{sym, ap}
 use Rattle.model.specs.Request.{request}
 use Rattle.model.specs.Refusals.{is_none}
 use Rattle.tracer.proofs.Meaning as law
 use Rattle.tracer.proofs.trace.Goals as goal
-
-pub returns-in_err-check_trace : goal.returns-in_err-check_trace
-returns-in_err-check_trace c =
-    let a = c.args in
-    let e = c.in_err-check_trace.field-0.0 in
-    let handed_on : c.from_residual.result ≡ Err e = search rules in
-    rw handed_on
-    (law.refused (request a.figures a.harvest.now) a.budgets.now a.charges.now a.losses.now e
-    c.in_err-check_trace.ensures)
 
 pub returns : goal.returns
 returns c =

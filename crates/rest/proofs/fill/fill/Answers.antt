@@ -23,9 +23,6 @@ of_request-requires c =
     let o = c.args.whole.one_each in
     law.fill_ready c.args.whole.request q.fillable o.0 o.1 c.sum.result c.sum.ensures.is c.in_default.ensures
 
-pub plan_into-requires : goal.plan_into-requires
-plan_into-requires c = rw c.of_request.ensures.lists c.requires.budgets_len
-
 pub returns-clause-ending : goal.returns-clause-ending
 returns-clause-ending c =
     let q = c.requires in
