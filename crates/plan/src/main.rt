@@ -70,6 +70,7 @@ fn hand_over(stdout: Stdout, text: &[u8], file: &[u8; INPUT_BYTES], n: usize) ->
 fn show(stdout: Stdout, file: &[u8; INPUT_BYTES], n: usize) -> io::Result<()>
     requires { n ≤ length file.now }
 {
+    // Fixed memory, with room for the longest listing: there is no heap.
     let mut text = [0u8; LISTING_BYTES];
     let r = write_listing(file, n, &mut text);
     hand_over(stdout, &text[0..r], file, n)
@@ -77,6 +78,7 @@ fn show(stdout: Stdout, file: &[u8; INPUT_BYTES], n: usize) -> io::Result<()>
 
 // Reads the file and prints its listing.
 fn run(rt: &HostRuntime) -> Result<(), Failure> {
+    // Fixed memory, with room for the longest file and a byte more: there is no heap.
     let mut file = [0u8; INPUT_BYTES];
     let n = read_input(rt.stdin(), &mut file).map_err(Failure::Input)?;
     show(rt.stdout(), &file, n).map_err(Failure::Output)
