@@ -1,6 +1,10 @@
 # Sourced by the scripts of this folder and by the gate: what passed and what failed, and the last line that says so.
 passed=0
 failed=0
+least_file=$(dirname "${BASH_SOURCE[0]}")/least
+
+# least PATTERN: how much the names that match it pass at least, by the file of that name
+least() { awk -v names="^($1)\$" '$1 ~ names { sum += $2 } END { print sum + 0 }' "$least_file"; }
 
 # verdict STATUS NAME
 verdict() {
@@ -34,9 +38,12 @@ counted() {
     rm -f "$log"
 }
 
-# finish LEAST: the counts as the last line; fails where something failed, or fewer than so many passed
+# finish PATTERN: the counts as the last line; fails where something failed, or fewer passed than tests/least says of the names that match
 finish() {
+    local least
+    least=$(least "$1")
+    [ "$failed" -gt 0 ] || [ "$passed" -ge "$least" ] || verdict 1 "$passed passed, and tests/least says $least"
     printf '%d passed, %d failed\n' "$passed" "$failed"
-    [ "$failed" -eq 0 ] && [ "$passed" -ge "$1" ]
+    [ "$failed" -eq 0 ]
     exit
 }

@@ -88,9 +88,29 @@ verdict $((${#differing} > 0)) "READING: entries and inner functions (<) and wha
 ! for lib in crates/*/src/lib.rt; do passed_on "$lib"; done | grep -vEx '[a-z_]+::([A-Za-z0-9_]+|\{[A-Za-z0-9_, ]+\})'
 verdict $? 'a crate hands on more than single names'
 
+# contract FUNCTION FILE: what stands between a function's name and its body, on one line
+contract() { awk -v name="${1#*::}" '$0 ~ "fn " name "[(<]" { inside = 1 } inside && /^ *\{$/ { exit } inside' "$2" | tr -s ' \n' ' '; }
+
+# every row of the entries: the function asks nothing, and promises what stands there
+rows=0
+while IFS='|' read -r _ entry file promise _; do
+    entry=$(tr -d '` ' <<<"$entry")
+    file=crates/$(tr -d '` ' <<<"$file")
+    promise=$(sed 's/(.*//; s/`, `/ (/; s/[` ]*$//; s/^[` ]*//' <<<"$promise")
+    clauses=$(contract "$entry" "$file")
+    [[ $clauses == *" ensures { $promise "* && $clauses != *' ensures '*' ensures '* && $clauses != *requires* ]]
+    verdict $? "READING: $entry of $file has a requires, or its one ensures is not $promise: $clauses"
+    rows=$((rows + 1))
+done < <(awk '$0 == "| entry | code | promise |" { inside = 1; next } !/^\|/ { inside = 0 } inside && !/^\|--/' docs/READING.md)
+verdict $((rows == 0)) 'READING: no entries'
+check 'READING: what is exported to C' "$(grep -rhoE 'extern "C" fn [a-z_]+' crates/*/src | sed 's/.* //' | sort)" \
+    "$(names_in '| entry | code | promise |' | sed -n 's/^energy //p')"
+! grep -n 'ghost [a-z_]*:' crates/{model,shift}/src/*.rt
+verdict $? 'READING: a type that an entry takes has a ghost field'
+
 for program in plan day; do
     [[ $(cat README.md) == *"$(cat crates/$program/stdout)"* ]]
     verdict $? "README: not what $program prints"
 done
 
-finish 50
+finish documents.sh

@@ -58,4 +58,4 @@ check 'sources that cannot be looked at' ' status 3: install prove' "$(run prove
 rm "$folder/target/gomzhiva.lock" && mkdir "$folder/target/gomzhiva.lock"
 check 'a lock that cannot be had' ' status 3: ' "$(run none)"
 
-finish 14
+finish launcher.sh

@@ -24,7 +24,7 @@ if [ -d crates/energy ] && [ -z "${ENERGY_LIB_DIR:-}" ]; then
     verdict $? 'static library'
 fi
 
-rust/cargo test 2>&1 | tee "$work/log"
+rust/cargo test -p energy -p evidence -p gomzhiva 2>&1 | tee "$work/log"
 status=${PIPESTATUS[0]}
 while read -r ok bad; do
     passed=$((passed + ok))
@@ -47,4 +47,4 @@ else
     verdict 1 "there is $library"
 fi
 
-finish 40
+finish library.sh

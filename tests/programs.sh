@@ -171,4 +171,4 @@ check 'status of a refusal' 0 "$(status $program </dev/null)"
 check 'status of a failed read' 1 "$(status $program <"$folder")"
 check 'status of a failed write' 1 "$(status env WRITES=0 LD_PRELOAD="$folder/faults.so" $program <"$folder/listing")"
 
-finish 40
+finish programs.sh

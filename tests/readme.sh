@@ -34,4 +34,4 @@ cmp "$folder/docs/june.svg" docs/june.svg
 check 'the picture in docs/' 0 $?
 check 'a built program is not built again' "$built" "$(stat -c %y.%i target/gomzhiva.built)"
 
-finish 18
+finish readme.sh
