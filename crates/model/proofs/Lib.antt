@@ -19,6 +19,7 @@ pub mod Ceilings
 pub mod Bridge
 pub mod Reach
 pub mod Absent
+pub mod Lossless
 pub mod Requests
 pub mod Needed
 pub mod Peak

@@ -24,6 +24,7 @@ use Rattle.model.proofs.Trace.{feasible_length, feasible_drawable, feasible_with
 use Rattle.model.proofs.Plan.{plan_best}
 use Rattle.model.proofs.Lowest.{MostServed, takes_more_lem, lowest, AtMost}
 use Rattle.model.proofs.Bridge.{frames_feasible, feasible_frames, frames_within, charges_at_most}
+use Rattle.model.proofs.Lossless.{plan_lossless}
 use Rattle.model.proofs.Reach.{feasible_spent, total_within, reachable_is, feasible_reachable, none_feasible}
 
 -- the frames of a request
@@ -180,4 +181,5 @@ plan_demand r s e =
           λ bs p. one_plan r bs (plan_of r) p (plan_is r s e (feasible_reachable r bs p.is_feasible));
       serves_most = plan_serves r s e;
       lowest_charges = lowest_charges r s e;
+      loses_nothing = plan_lossless r s e;
     }

@@ -1,9 +1,9 @@
 -- Demands 2 and 3 as statements about a request, whatever its size. They are proved in proofs/Requests.antt and
 -- proofs/Needed.antt.
 use Rattle.std.specs.Prelude.{◌≡◌, true, false, List, ℤ, get_or, ℕ, ◌≤◌}
-use Rattle.model.specs.Request.{Request, most_energy, with_capacity}
+use Rattle.model.specs.Request.{Request, NoMost, most_energy, with_capacity}
 use Rattle.model.specs.Refusals.{reachable}
-use Rattle.model.specs.Charge.{feasible, charges, feasible_unlimited}
+use Rattle.model.specs.Charge.{feasible, charges, losses, feasible_unlimited}
 use Rattle.model.specs.Reward.{Qualifies, BestForAll, IsPlan, BestReward, IsNeeded}
 use Rattle.model.specs.Frames.{served}
 use Rattle.model.specs.Plan.{plan_of, needed_of}
@@ -22,6 +22,8 @@ pub record PlanDemand (r : Request) : Type 0 where
   -- among the lists best for every table it has the lowest charge after every frame
   pub lowest_charges : (bs : List ℕ) → feasible r bs ≡ true → BestForAll r bs → (i : ℕ) →
       get_or (charges r (plan_of r)) i 0 ≤ get_or (charges r bs) i 0
+  -- a frame without a most loses nothing, whatever the other frames have
+  pub loses_nothing : (i : ℕ) → NoMost r i → get_or (losses r (plan_of r)) i 0 ≡ 0
 
 -- for every request for which neither refusal 9 nor 11 holds without limit; its capacity plays no part
 pub record NeededDemand (r : Request) : Type 0 where

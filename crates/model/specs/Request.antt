@@ -1,5 +1,5 @@
 -- A request: its figures (capacity, start charge, end charge), and for each frame a harvest, a least and a most.
-use Rattle.std.specs.Prelude.{List, [], ◌∷◌, ℕ, ◌+◌, length}
+use Rattle.std.specs.Prelude.{◌≡◌, List, [], ◌∷◌, ℕ, ◌+◌, length, get_or}
 use Rattle.model.specs.declared.Figures.{Figures}
 use Rattle.model.specs.Limits.{no_upper_end}
 
@@ -47,6 +47,10 @@ first_bounds (w ∷ ws) = w
 abbrev pub later_bounds : List Bounds → List Bounds
 later_bounds [] = []
 later_bounds (w ∷ ws) = ws
+
+-- frame i, counted from 0, has no most
+abbrev pub NoMost : Request → ℕ → Type 0
+NoMost r i = (get_or r.bounds i absent).most ≡ no_upper_end
 
 -- the leasts of frames with harvests hs, as budgets
 abbrev pub leasts_from : List ℕ → List Bounds → List ℕ
