@@ -1,5 +1,6 @@
--- Each kind of call keeps what is asked of it. The record that a call gets is the logbook's and passes 22, so its
--- refusals are the logbook's, and so is everything else that its promise says.
+-- Each kind of call keeps what is asked of it. The record that a call gets is the logbook's and passes 22, so the
+-- refusal that its promise gives is the logbook's, which is worded apart (Refusals.antt), and so is everything else that
+-- the promise says.
 use mathlib.Core.Path.{◌≡◌, refl, sym, ap, subst, ◌∙◌}
 use mathlib.Core.Bool.{Bool, true, false, not}
 use mathlib.Core.List.{List, [], ◌∷◌, ◌++◌}
@@ -13,7 +14,7 @@ use Rattle.model.specs.Choice.{pick}
 use Rattle.model.specs.Request.{Request, bounds_of}
 use Rattle.model.specs.Trace.{trace, last_from}
 use Rattle.model.specs.Charge.{at_hand, frame_end}
-use Rattle.model.specs.Refusals.{outcome, refusal, is_none, reachable}
+use Rattle.model.specs.Refusals.{outcome, refusal, is_none, first_of, reachable}
 use Rattle.shift.specs.declared.Totals.{Totals}
 use Rattle.shift.specs.declared.Shift.{Shift}
 use Rattle.model.specs.declared.refusal.Refusal.TheVariants as given
@@ -31,6 +32,7 @@ use Rattle.shiftbook.specs.Logbook.{State}
 use Rattle.shiftbook.specs.Kind.{shift, ending, tells}
 use Rattle.shiftbook.specs.Calls.{recording, Planning, due_budgets, planning, Call, records, plans, kind}
 use Rattle.shiftbook.proofs.Numbers as number
+use Rattle.shiftbook.proofs.Refusals.{note_agrees, planning_agrees}
 use Rattle.shiftbook.proofs.Keeps.{Sound, Step, Keeps, without, handed_says, shift_pick, sums_more}
 
 -- recording
@@ -40,8 +42,8 @@ recording_step :
 recording_step h u q l i a p =
     let s = shift_of l in
     let f = note_refusal l h u in
-    let e : record_refusal s h u ≡ f = past_22 s (recording_refusals (terms l) l.page.now h u)
-    i.is_shift in
+    let e : record_refusal s h u ≡ f = past_22 s (recording_refusals (terms l) l.page.now h u) i.is_shift
+    ∙ sym (ap first_of (note_agrees l h u)) in
     let d : a.shift ≡ pick (is_none f) (recorded_by s h u) s =
     p.shift ∙ ap (λ (g : Refusal). pick (is_none g) (recorded_by s h u) s) e in
     let z : a.shift ≡ shift_of (pick (is_none f) (noted l h u) l) = d ∙ shift_pick (is_none f) (noted l h u) l in
@@ -71,7 +73,8 @@ recording_without h u l =
     let k = terms l in
     let n = l.page.now in
     let a = at_hand k.capacity n.charge h in
-    number.first_without 22 refl (recording_refusals k n h u) (
+    ap (λ (fs : List Refusal). eqb (first_of fs).number 22) (note_agrees l h u)
+    ∙ number.first_without 22 refl (recording_refusals k n h u) (
       number.test_without 22 (eqb n.recorded k.frames) (refusal 20 0) refl refl,
       (
         number.harvest_without 22 (suc n.recorded) (h ∷ []) refl refl,
@@ -101,7 +104,8 @@ planning_step p b q l i a says =
     let r = open_request l p in
     let f = planning_refusal l p (length b) in
     let e : rest_refusal (shift_of l) p (length b) ≡ f =
-    past_22 (shift_of l) (planning_refusals (terms l) l.page.now p (length b)) i.is_shift in
+    past_22 (shift_of l) (planning_refusals (terms l) l.page.now p (length b)) i.is_shift
+    ∙ sym (planning_agrees l p (length b)) in
     let o : rest_said a.answer ≡ outcome f (ending_of r) = says.answer
     ∙ ap (λ (g : Refusal). outcome g (ending_of r)) e in
     let d : a.budgets ≡ due_budgets l p b =
@@ -120,7 +124,8 @@ planning_without p b l =
     let k = terms l in
     let n = l.page.now in
     let i = n.recorded in
-    number.first_without 22 refl (planning_refusals k n p (length b)) (
+    ap (λ (g : Refusal). eqb g.number 22) (planning_agrees l p (length b))
+    ∙ number.first_without 22 refl (planning_refusals k n p (length b)) (
       number.length_without 22 k.frames (length p.harvest) refl refl,
       (
         number.length_without 22 k.frames (length p.least) refl refl,
