@@ -1,6 +1,5 @@
 -- The shift's record, its refusals 22, 20 and 21, and what recording a frame makes of it. The rules speak of the
--- terms of a shift and of how it stands now: entries cite them with a shift's figures, 22 in front, and the logbook
--- with its own.
+-- terms of a shift and of how it stands now; entries cite them with a shift's figures, 22 in front.
 use Rattle.std.specs.Prelude.{Bool, true, ◌&&◌, not, List, [], ◌∷◌, ℕ, suc, ◌+◌, ◌-◌, ◌*◌, eqb, ltb, leb}
 use Rattle.model.specs.Refusals.{Refusal}
 use Rattle.model.specs.Choice.{pick}
