@@ -6,23 +6,6 @@ use Rattle.text.specs.Decimal.{decimal}
 use Rattle.text.specs.Line.{line_of}
 use Rattle.cases.specs.Cases.{AllHold, cases}
 
-infixr 20 ◌▸◌
--- a case and those behind it
-◌▸◌ : {A B : Type 0} → A → B → A × B
-◌▸◌ a b = (a, b)
-
 pub worked_cases : AllHold cases
 unfolding decimal line_of plan_of open_plan needed_of frames_of plan budget largest reserve requirement peak
-worked_cases =
-    refl ▸ (refl, refl) ▸ (refl, refl) ▸ (refl, refl) ▸ (refl, refl, refl) ▸ (refl, refl) ▸ (refl, refl)
-    ▸ (refl, refl) ▸ (refl, refl, refl) ▸ (refl, refl) ▸ (refl, refl) ▸ (refl, refl) ▸ (refl, refl) ▸ refl ▸ refl
-    ▸ (refl, refl) ▸ (refl, refl, refl) ▸ (refl, refl, refl) ▸ (refl, refl, refl) ▸ (refl, refl, refl) ▸ refl
-    ▸ (refl, refl, refl) ▸ (refl, refl, refl) ▸ refl ▸ refl ▸ refl ▸ refl ▸ (refl, refl, refl) ▸ refl
-    ▸ (refl, refl) ▸ (refl, refl) ▸ (refl, refl) ▸ (refl, refl) ▸ (refl, refl) ▸ (refl, refl) ▸ (refl, refl)
-    ▸ (refl, refl) ▸ (refl, refl) ▸ (refl, refl) ▸ (refl, refl) ▸ (refl, refl) ▸ (refl, refl) ▸ (refl, refl)
-    ▸ (refl, refl) ▸ (refl, refl) ▸ (refl, refl) ▸ (refl, refl) ▸ refl ▸ (refl, refl) ▸ (refl, refl)
-    ▸ (refl, refl) ▸ refl ▸ refl ▸ refl ▸ refl ▸ (refl, refl) ▸ refl ▸ refl ▸ refl ▸ refl ▸ refl ▸ refl ▸ refl
-    ▸ refl ▸ refl ▸ refl ▸ refl ▸ refl ▸ refl ▸ refl ▸ refl ▸ (refl, refl, refl) ▸ (refl, refl, refl)
-    ▸ (refl, refl, refl) ▸ (refl, refl, refl) ▸ (refl, refl, refl) ▸ refl ▸ refl ▸ refl ▸ (refl, refl, refl)
-    ▸ (refl, refl) ▸ (refl, refl) ▸ (refl, refl) ▸ (refl, refl) ▸ (refl, refl) ▸ (refl, refl) ▸ (refl, refl)
-    ▸ (refl, refl) ▸ (refl, refl) ▸ (refl, refl) ▸ tt
+worked_cases = assumption refl
