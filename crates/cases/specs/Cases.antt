@@ -242,7 +242,8 @@ cases =
     no_leasts (below_zero 4)
     ∷ traces (listing 5) no_leasts (replicate 6 (pos 5)) (3 ∷ 4 ∷ 0 ∷ 0 ∷ 5 ∷ 5 ∷ []) is_feasible
     ∷ traces (asked 5 0 0 (0 ∷ 10 ∷ [])) (3 ∷ 0 ∷ []) (negsuc 2 ∷ pos 5 ∷ []) (0 ∷ 2 ∷ []) (below_zero 1)
-    -- the last charge too low, and below zero
+    -- the last charge just high enough, too low, and below zero
+    ∷ traces (asked 5 2 2 (0 ∷ [])) (0 ∷ []) (pos 2 ∷ []) (0 ∷ []) is_feasible
     ∷ traces (asked 5 2 3 (0 ∷ [])) (0 ∷ []) (pos 2 ∷ []) (0 ∷ []) end_too_low
     ∷ traces (asked 5 2 0 (0 ∷ [])) (3 ∷ []) (negsuc 0 ∷ []) (0 ∷ []) end_too_low
     -- a shift's start, recordings, and its rest

@@ -1,2 +1,2 @@
--- Document 01's cases worked by hand.
+-- Cases worked by hand.
 pub mod Cases

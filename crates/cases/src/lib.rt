@@ -1,3 +1,3 @@
-// Document 01's cases worked by hand, as one table of statements about the definitions, and the one theorem that all
-// of them hold.
+// Cases worked by hand, as one table of statements about the definitions, and the one theorem that all of them
+// hold.
 #![tactic(auto)]
