@@ -1,6 +1,7 @@
 #!/usr/bin/env bash
 # The documents against the files: every name in a READING table of names stands in the file beside it, every inner function is public,
-# and the outputs in README are those of the programs. The last line is 'N passed, M failed'.
+# the entries ask nothing and promise what READING says, must-fail edits have controls, and the outputs in README are those of the programs.
+# The last line is 'N passed, M failed'.
 set -u
 cd "$(dirname "$0")/.." || exit 2
 source tests/counting.bash
@@ -107,6 +108,9 @@ check 'READING: what is exported to C' "$(grep -rhoE 'extern "C" fn [a-z_]+' cra
     "$(names_in '| entry | code | promise |' | sed -n 's/^energy //p')"
 ! grep -n 'ghost [a-z_]*:' crates/{model,shift}/src/*.rt
 verdict $? 'READING: a type that an entry takes has a ghost field'
+
+# every must-fail edit has a control of its shape
+counted tools/controls
 
 for program in plan day; do
     [[ $(cat README.md) == *"$(cat crates/$program/stdout)"* ]]
