@@ -527,7 +527,10 @@ cases =
     ∷ reads (bytes_of (9 ∷ 0 ∷ 0 ∷ 0x40000001 ∷ [])) 16 1 (refusal 8 4)
     ∷ reads (bytes_of (9 ∷ 0 ∷ 0 ∷ 0x40000001 ∷ 0xC0000002 ∷ [])) 20 1 (refusal 8 4)
     ∷ reads (file_bytes (evenly 1) ++ (0 ∷ [])) 21 1 (refusal 8 5)
+    ∷ reads (bytes_of (9 ∷ 0 ∷ 0 ∷ 0x40000001 ∷ 0xC0000001 ∷ 0xC0000001 ∷ [])) 24 1 (refusal 8 5)
+    ∷ reads (bytes_of (0xC0000000 ∷ [])) 4 1 (refusal 8 0)
     ∷ reads (bytes_of (9 ∷ 0x40000000 ∷ 0 ∷ 0x40000001 ∷ 0xC0000001 ∷ [])) 20 1 (refusal 8 1)
+    ∷ reads (bytes_of (9 ∷ 0 ∷ 0 ∷ 0 ∷ 0x40000001 ∷ 0xC0000001 ∷ [])) 24 1 (refusal 8 3)
     ∷ reads (bytes_of (9 ∷ 0 ∷ 0 ∷ 0x40000001 ∷ 0 ∷ 0xC0000001 ∷ [])) 24 1 (refusal 8 4)
     -- a file with no frames is read, and then its request is refused
     ∷ reads (file_bytes (evenly 0)) 16 0 none
