@@ -75,6 +75,10 @@ part_refusals s b = not_shift s ∷ wrong_length s.terms.frames b ∷ all_record
 abbrev pub part_refusal : Shift → ℕ → Refusal
 part_refusal s b = first_of (part_refusals s b)
 
+-- the budgets of the frames not yet recorded
+abbrev pub part_of : Shift → List ℕ → List ℕ
+part_of s b = drop s.now.recorded b
+
 -- how a planning not refused ends: short or not, and the missing amount, 0 if not short
 pub record Ending : Type 0 where
   pub short : Bool

@@ -1,6 +1,6 @@
 -- What planning the rest and returning its part promise: the answer and every lent list by an equation, then what the
 -- answer means.
-use Rattle.std.specs.Prelude.{◌≡◌, true, List, [], ◌++◌, ℕ, ◌+◌, ◌*◌, ◌<◌, length, take, drop, Result, Ok, Err}
+use Rattle.std.specs.Prelude.{◌≡◌, true, List, [], ◌++◌, ℕ, ◌+◌, ◌*◌, ◌<◌, length, take, Result, Ok, Err}
 use Rattle.std.specs.Borrow.{Bor}
 use Rattle.model.specs.Choice.{pick}
 use Rattle.model.specs.Refusals.{Refusal, none, Outcome, gives, refuses, outcome, is_none}
@@ -10,7 +10,7 @@ use Rattle.shift.specs.declared.Shift.{Shift}
 use Rattle.rest.specs.declared.Rest.{Rest}
 use Rattle.rest.specs.declared.Rest.TheVariants as rest
 use Rattle.rest.specs.Rest.{Lists, Ending, not_short, ending_of, rest_request, rest_refusal, rest_budgets}
-use Rattle.rest.specs.Rest.{part_refusal, written_from, RestMeans}
+use Rattle.rest.specs.Rest.{part_refusal, part_of, written_from, RestMeans}
 
 -- how a planning not refused ended
 abbrev pub ended : Rest → Ending
@@ -43,7 +43,7 @@ pub record PartSays (s : Shift) (b part : List ℕ) (at part_at : ℕ × ℕ) (n
   pub number_is : number ≡ (part_refusal s (length b)).number
   pub p_is : p ≡ 0
   -- the budgets of the frames not yet recorded; nothing when refused
-  pub contents : part ≡ pick (is_none (part_refusal s (length b))) (drop s.now.recorded b) []
+  pub contents : part ≡ pick (is_none (part_refusal s (length b))) (part_of s b) []
   -- it lies in the lent list's own memory, four bytes for each recorded frame further on; when refused, at its
   -- beginning
   pub block : part_at.0 ≡ at.0
