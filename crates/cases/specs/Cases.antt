@@ -1,7 +1,7 @@
 -- Cases worked by hand: statements about the definitions that the entries' promises speak of, with the values that
 -- documents 01 and 02 want. First what document 01 marks with *, with what document 02 adds to it; then leasts and
 -- mosts, the house curves, and entry by entry what it refuses: each number and P, each limit with the next value above
--- it, each lent list of another length alone, and of two refusals that hold at once the first. A case is a line.
+-- it, each lent list of another length alone, and of two refusals that hold at once the first. Most cases are a line.
 use Rattle.std.specs.Prelude.{◌≡◌, true, List, [], ◌∷◌, ◌++◌, map, length, replicate, take, drop}
 use Rattle.std.specs.Prelude.{ℕ, ◌+◌, ◌*◌, ℤ, pos, negsuc}
 use Prim.Native.String.{String}
@@ -18,9 +18,10 @@ use Rattle.shift.specs.declared.Terms.{Terms}
 use Rattle.shift.specs.declared.Shift.{Shift}
 use Rattle.shift.specs.Shift.{started, record_refusal, recorded_by}
 use Rattle.rest.specs.Rest.{Lists, lists, Ending, not_short, ending_of, rest_request, rest_refusal, rest_budgets}
-use Rattle.rest.specs.Rest.{part_refusal, written_from}
+use Rattle.rest.specs.Rest.{part_refusal, part_of, written_from}
 use Rattle.words.specs.Words.{bytes_of}
 use Rattle.wordfile.specs.File.{file_words, file_bytes, request_in, read_refusal, write_refusal}
+use Rattle.wordfile.specs.Says.{header_of}
 use Rattle.printed.specs.Text as text
 use Rattle.text.specs.Ascii.{ascii}
 
@@ -246,7 +247,7 @@ cases =
     ∷ traces (asked 5 2 2 (0 ∷ [])) (0 ∷ []) (pos 2 ∷ []) (0 ∷ []) is_feasible
     ∷ traces (asked 5 2 3 (0 ∷ [])) (0 ∷ []) (pos 2 ∷ []) (0 ∷ []) end_too_low
     ∷ traces (asked 5 2 0 (0 ∷ [])) (3 ∷ []) (negsuc 0 ∷ []) (0 ∷ []) end_too_low
-    -- a shift's start, recordings, and its rest
+    -- a shift's start, recordings, and rests, the last of which the capacity binds
     ∷ (started (asked 9 4 5 (1 ∷ 2 ∷ [])) ≡ shift (terms 2 9 4 5) 0 4 0 0 0)
     ∷ records four 3 7 0 0
     ∷ refuses (record_refusal four 3 8) 21 1
@@ -254,6 +255,7 @@ cases =
     ∷ (recorded_by half_done 5 1 ≡ shift (terms 2 5 4 0) 2 5 7 2 4)
     ∷ rests after_one (free sun) not_short (2 ∷ 1 ∷ 1 ∷ 4 ∷ 4 ∷ [])
     ∷ rests (shift (terms 2 9 4 1) 1 5 2 1 0) (free (1 ∷ 2 ∷ [])) not_short (6 ∷ [])
+    ∷ rests after_one (free (6 ∷ 9 ∷ 0 ∷ 0 ∷ 5 ∷ 5 ∷ [])) not_short (4 ∷ 3 ∷ 2 ∷ 4 ∷ 4 ∷ [])
     -- lent lists: what was there before the next frame, and behind what is written, is kept
     ∷ (written_from 1 (7 ∷ 8 ∷ 9 ∷ []) (1 ∷ 2 ∷ []) ≡ (7 ∷ 1 ∷ 2 ∷ []))
     ∷ (over (1 ∷ 2 ∷ []) (7 ∷ 8 ∷ 9 ∷ []) ≡ (1 ∷ 2 ∷ 9 ∷ []))
@@ -278,6 +280,8 @@ cases =
     ∷ plans (bound 9 4 5 (5 ∷ []) (1 ∷ []) (1 ∷ [])) (1 ∷ [])
     ∷ charged (bound 9 4 5 (5 ∷ []) (1 ∷ []) (1 ∷ [])) (8 ∷ []) (0 ∷ [])
     ∷ needs (bound 9 4 5 (5 ∷ []) (1 ∷ []) (1 ∷ [])) 5
+    -- a needed capacity above the limit of capacities
+    ∷ needs (bound 0 1000000000 1000000000 (400000 ∷ 0 ∷ []) (0 ∷ 400000 ∷ []) (0 ∷ 400000 ∷ [])) 1000400000
     -- 11, and 11 of planning alone, the needed capacity having no limit
     ∷ refuses (planning (listing_within (9 ∷ drop 1 no_leasts) no_mosts)) 11 0
     ∷ prints (listing_within (9 ∷ drop 1 no_leasts) no_mosts) "refused 11 0\n"
@@ -490,7 +494,8 @@ cases =
     ∷ refuses (rest_refusal half_done (blank 2 2 3) 2) 7 0
     ∷ refuses (rest_refusal half_done (blank 2 2 2) 1) 7 0
     ∷ refuses (rest_refusal half_done (blank 2 2 2) 3) 7 0
-    -- the part of the rest
+    -- the part of the rest: from the next frame on
+    ∷ (part_of half_done (7 ∷ 8 ∷ []) ≡ (8 ∷ []))
     ∷ passes (part_refusal half_done 2)
     ∷ refuses (part_refusal over_full 2) 22 0
     ∷ refuses (part_refusal half_done 1) 7 0
@@ -506,6 +511,11 @@ cases =
     ∷ words (bound 9 0 0 (1 ∷ 2 ∷ 3 ∷ 4 ∷ []) (1 ∷ 0 ∷ 1 ∷ 0 ∷ []) (no_upper_end ∷ 2 ∷ 3 ∷ no_upper_end ∷ []))
     (0x00000009 ∷ 0 ∷ 0 ∷ 0x40000001 ∷ 0x80000001 ∷ 0x40000002 ∷ 0xA0000002 ∷ 0x40000003 ∷ 0x80000001 ∷ 0xA0000003
     ∷ 0x40000004 ∷ 0xC0000004 ∷ [])
+    -- a value of 30 bits, and a most of 0, which is not an absent one
+    ∷ words (asked 1000000000 0 0 (1 ∷ [])) (1000000000 ∷ 0 ∷ 0 ∷ 0x40000001 ∷ 0xC0000001 ∷ [])
+    ∷ words (bound 9 0 0 (1 ∷ []) (0 ∷ []) (0 ∷ [])) (9 ∷ 0 ∷ 0 ∷ 0x40000001 ∷ 0xA0000000 ∷ 0xC0000001 ∷ [])
+    -- what the reader answers: figures and K
+    ∷ (header_of (asked 9 4 5 (1 ∷ 2 ∷ [])) ≡ record { figures = figures 9 4 5; frames = 2 })
     -- reading: 2 for the bytes, 8 with the word's place, 2 for the frames and 7, in this order
     ∷ reads (file_bytes (evenly 672)) 2704 672 none
     ∷ reads (file_bytes (evenly 673)) 2708 673 (refusal 2 0)
@@ -520,8 +530,15 @@ cases =
     ∷ refuses (read_refusal (file_bytes (evenly 2)) 2 1 2) 7 0
     ∷ refuses (read_refusal (file_bytes (evenly 2)) 2 2 1) 7 0
     ∷ passes (read_refusal (file_bytes (evenly 2)) 3 3 3)
+    -- reading: nothing that is refused of a request alone
+    ∷ passes (read_refusal (file_bytes both_3_4) 1 1 1)
+    ∷ passes (read_refusal (file_bytes both_4_5) 1 1 1)
+    ∷ passes (read_refusal (file_bytes both_5_6) 1 1 1)
+    ∷ passes (read_refusal (file_bytes both_6_10) 2 2 2)
+    ∷ passes (read_refusal (file_bytes both_10_9) 2 2 2)
+    ∷ passes (read_refusal (file_bytes both_9_11) 1 1 1)
     -- broken files: empty, ended within a word, without an end word, with a wrong count, with a byte behind that word,
-    -- and with a word out of place
+    -- and with a word out of place, also before a broken last word
     ∷ reads [] 0 1 (refusal 8 0)
     ∷ reads (take 18 (file_bytes (evenly 1))) 18 1 (refusal 8 4)
     ∷ reads (bytes_of (9 ∷ 0 ∷ 0 ∷ 0x40000001 ∷ [])) 16 1 (refusal 8 4)
@@ -530,17 +547,23 @@ cases =
     ∷ reads (bytes_of (9 ∷ 0 ∷ 0 ∷ 0x40000001 ∷ 0xC0000001 ∷ 0xC0000001 ∷ [])) 24 1 (refusal 8 5)
     ∷ reads (bytes_of (0xC0000000 ∷ [])) 4 1 (refusal 8 0)
     ∷ reads (bytes_of (9 ∷ 0x40000000 ∷ 0 ∷ 0x40000001 ∷ 0xC0000001 ∷ [])) 20 1 (refusal 8 1)
+    ∷ reads (take 10 (bytes_of (9 ∷ 0x40000000 ∷ 0 ∷ []))) 10 1 (refusal 8 1)
     ∷ reads (bytes_of (9 ∷ 0 ∷ 0 ∷ 0 ∷ 0x40000001 ∷ 0xC0000001 ∷ [])) 24 1 (refusal 8 3)
     ∷ reads (bytes_of (9 ∷ 0 ∷ 0 ∷ 0x40000001 ∷ 0 ∷ 0xC0000001 ∷ [])) 24 1 (refusal 8 4)
     -- a file with no frames is read, and then its request is refused
     ∷ reads (file_bytes (evenly 0)) 16 0 none
     ∷ prints (evenly 0) "refused 1 0\n"
+    -- the program: a file's refusal comes before its request's; it has lists for the most frames
+    ∷ (text.listing (bytes_of (9 ∷ 10 ∷ 0 ∷ 0x40000001 ∷ [])) ≡ ascii "refused 8 4\n")
+    ∷ prints (evenly 673) "refused 2 0\n"
+    ∷ prints (asked 1000000001 0 0 (replicate 672 1)) "refused 3 0\n"
     -- what the writer leaves out may stand there; wrong orders of bounds
     ∷ reads (bytes_of (9 ∷ 0 ∷ 0 ∷ 0x40000001 ∷ 0x80000000 ∷ 0xC0000001 ∷ [])) 24 1 none
     ∷ reads (bytes_of (9 ∷ 0 ∷ 0 ∷ 0x40000001 ∷ 0xA0000002 ∷ 0x80000001 ∷ 0xC0000001 ∷ [])) 28 1 (refusal 8 5)
     ∷ reads (bytes_of (9 ∷ 0 ∷ 0 ∷ 0x40000001 ∷ 0x80000001 ∷ 0x80000001 ∷ 0xC0000001 ∷ [])) 28 1 (refusal 8 5)
     ∷ reads (bytes_of (9 ∷ 0 ∷ 0 ∷ 0x40000001 ∷ 0xA0000002 ∷ 0xA0000002 ∷ 0xC0000001 ∷ [])) 28 1 (refusal 8 5)
     ∷ reads (bytes_of (9 ∷ 0 ∷ 0 ∷ 0x80000001 ∷ 0x40000001 ∷ 0xC0000001 ∷ [])) 24 1 (refusal 8 3)
+    ∷ reads (bytes_of (9 ∷ 0 ∷ 0 ∷ 0xA0000001 ∷ 0x40000001 ∷ 0xC0000001 ∷ [])) 24 1 (refusal 8 3)
     -- the same with leasts of 0, which say nothing and yet have their place
     ∷ reads (bytes_of (9 ∷ 0 ∷ 0 ∷ 0x40000001 ∷ 0xA0000002 ∷ 0x80000000 ∷ 0xC0000001 ∷ [])) 28 1 (refusal 8 5)
     ∷ reads (bytes_of (9 ∷ 0 ∷ 0 ∷ 0x40000001 ∷ 0x80000002 ∷ 0x80000000 ∷ 0xC0000001 ∷ [])) 28 1 (refusal 8 5)
