@@ -35,11 +35,13 @@
  * `energy_listing` answers no struct and refuses nothing: it writes the refusal of a file as text.
  *
  * A list is a pointer and then its length in entries. It must be aligned and valid for that length, and not null even
- * where the length is 0. A list that a call writes must not overlap another list of the same call. Of such lists
- * all that is said here of answers, and of what lists hold afterwards, is proved by contract.
- * Three things are not. The language sees to it that a call keeps no pointer and touches nothing but its lists, so that
- * calls on different lists may run at the same time. The code has no heap, so that a call allocates nothing. And by
- * measurement, working lists stand on the stack: a call takes at most 52 KiB of it.
+ * where the length is 0. A list that a call writes must not overlap another list of the same call.
+ *
+ * Of such lists all that is said here of answers, and of what lists hold afterwards, is proved, by contract or by a
+ * theorem about what the contracts say; that the numbers and structs of this file are the library's is tested. The
+ * language sees to it that a call keeps no pointer and touches nothing but its lists, so that calls on different lists
+ * may run at the same time; the code has no heap, so that a call allocates nothing. Working lists stand on the stack,
+ * which is measured: a call takes at most 52 KiB of it.
  */
 #ifndef ENERGY_H
 #define ENERGY_H

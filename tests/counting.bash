@@ -3,8 +3,8 @@ passed=0
 failed=0
 least_file=$(dirname "${BASH_SOURCE[0]}")/least
 
-# least PATTERN: how much the names that match it pass at least, by the file of that name
-least() { awk -v names="^($1)\$" '$1 ~ names { sum += $2 } END { print sum + 0 }' "$least_file"; }
+# least PATTERN: how much the names that match it pass at least, by the file of that name; nothing where no name does
+least() { awk -v names="^($1)\$" '$1 ~ names { sum += $2; found = 1 } END { if (found) print sum }' "$least_file"; }
 
 # verdict STATUS NAME
 verdict() {
@@ -42,7 +42,7 @@ counted() {
 finish() {
     local least
     least=$(least "$1")
-    [ "$failed" -gt 0 ] || [ "$passed" -ge "$least" ] || verdict 1 "$passed passed, and tests/least says $least"
+    [ "$failed" -gt 0 ] || [ "$passed" -ge "$least" ] || verdict 1 "$passed passed, and tests/least says '$least'"
     printf '%d passed, %d failed\n' "$passed" "$failed"
     [ "$failed" -eq 0 ]
     exit

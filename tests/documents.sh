@@ -89,6 +89,9 @@ verdict $((${#differing} > 0)) "READING: entries and inner functions (<) and wha
 ! for lib in crates/*/src/lib.rt; do passed_on "$lib"; done | grep -vEx '[a-z_]+::([A-Za-z0-9_]+|\{[A-Za-z0-9_, ]+\})'
 verdict $? 'a crate hands on more than single names'
 
+# rows_of TABLE: the rows of READING's table with this head
+rows_of() { awk -v head="$1" '$0 == head { inside = 1; next } !/^\|/ { inside = 0 } inside && !/^\|--/' docs/READING.md; }
+
 # contract FUNCTION FILE: what stands between a function's name and its body, on one line
 contract() { awk -v name="${1#*::}" '$0 ~ "fn " name "[(<]" { inside = 1 } inside && /^ *\{$/ { exit } inside' "$2" | tr -s ' \n' ' '; }
 
@@ -101,19 +104,35 @@ while IFS='|' read -r _ entry file promise _; do
     clauses=$(contract "$entry" "$file")
     [[ $clauses == *" ensures { $promise "* && $clauses != *' ensures '*' ensures '* && $clauses != *requires* ]]
     verdict $? "READING: $entry of $file has a requires, or its one ensures is not $promise: $clauses"
+    asking=$(grep -oE '[A-Z][A-Za-z0-9]*' <<<"${clauses%%->*}" | grep -vxE 'C|Figures|Lists|Request|Shift')
+    verdict $((${#asking} > 0)) "READING: $entry of $file takes $asking, which may ask something"
     rows=$((rows + 1))
-done < <(awk '$0 == "| entry | code | promise |" { inside = 1; next } !/^\|/ { inside = 0 } inside && !/^\|--/' docs/READING.md)
+done < <(rows_of '| entry | code | promise |')
 verdict $((rows == 0)) 'READING: no entries'
+! grep -n 'ghost' crates/{model,shift}/src/lib.rt | grep -v 'ghost use'
+verdict $? 'a struct that an entry takes asks something'
 check 'READING: what is exported to C' "$(grep -rhoE 'extern "C" fn [a-z_]+' crates/*/src | sed 's/.* //' | sort)" \
     "$(names_in '| entry | code | promise |' | sed -n 's/^energy //p')"
-! grep -n 'ghost [a-z_]*:' crates/{model,shift}/src/*.rt
-verdict $? 'READING: a type that an entry takes has a ghost field'
+
+# fields_of RECORD FILE: the names of a record's fields, in their order
+fields_of() {
+    awk -v record="$1" '
+        /^[^ ]/ { inside = ($0 ~ "^pub record " record "( |$)") }
+        inside && /^  pub [^ ]+ :/ { printf "%s ", $2 }' "$2"
+}
+while IFS='|' read -r _ record fields file _; do
+    record=$(tr -d '` ' <<<"$record")
+    check "READING: the fields of $record" "$(fields_of "$record" "crates/$(tr -d '` ' <<<"$file")")" "$(tr -d '\140,' <<<"${fields# }")"
+done < <(rows_of '| promise | fields | file |')
+# every record that an entry's contract names has its fields there
+check 'READING: promises without their fields' '' "$(comm -23 <(grep -rhoE '^pub record [A-Za-z]+(Says|Means|Demand|Demand3) ' crates/*/specs | cut -d' ' -f3 | sort) \
+    <(rows_of '| promise | fields | file |' | cut -d'|' -f2 | tr -d '` ' | sort))"
 
 # every must-fail edit has a control of its shape
 counted tools/controls
 
 for program in plan day; do
-    [[ $(cat README.md) == *"$(cat crates/$program/stdout)"* ]]
+    [ -s crates/$program/stdout ] && [[ $(cat README.md) == *"$(cat crates/$program/stdout)"* ]]
     verdict $? "README: not what $program prints"
 done
 
