@@ -131,6 +131,11 @@ check 'READING: promises without their fields' '' "$(comm -23 <(grep -rhoE '^pub
 # every must-fail edit has a control of its shape
 counted tools/controls
 
+# the rows of the table of worked cases, each of which begins with a name or a bracket; the first follows no other
+cases=$((1 + $(grep -cE '^    ∷ [a-z(]' crates/cases/specs/Cases.antt)))
+[ "$cases" -ge "$(least cases)" ]
+verdict $? "the table of cases has $cases rows, and tests/least says '$(least cases)'"
+
 for program in plan day; do
     [ -s crates/$program/stdout ] && [[ $(cat README.md) == *"$(cat crates/$program/stdout)"* ]]
     verdict $? "README: not what $program prints"
