@@ -42,7 +42,7 @@ counted() {
 finish() {
     local least
     least=$(least "$1")
-    [ "$failed" -gt 0 ] || [ "$passed" -ge "$least" ] || verdict 1 "$passed passed, and tests/least says '$least'"
+    [ "$failed" -gt 0 ] || [ "$passed" -ge "$least" ] || verdict 1 "only $passed passed, and tests/least says '$least': a check, an edit or a row is gone"
     printf '%d passed, %d failed\n' "$passed" "$failed"
     [ "$failed" -eq 0 ]
     exit

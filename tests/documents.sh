@@ -128,8 +128,10 @@ done < <(rows_of '| promise | fields | file |')
 check 'READING: promises without their fields' '' "$(comm -23 <(grep -rhoE '^pub record [A-Za-z]+(Says|Means|Demand|Demand3) ' crates/*/specs | cut -d' ' -f3 | sort) \
     <(rows_of '| promise | fields | file |' | cut -d'|' -f2 | tr -d '` ' | sort))"
 
-# every must-fail edit has a control of its shape
+# every must-fail edit has a control of its shape, and every shared error of the list can still be made
 counted tools/controls
+check 'must-fail edits with a control of their own' "$(least controls)" "$(grep -l '^# control: ' crates/*/must-fail/*.edit | wc -l)"
+counted tools/shared-errors --texts
 
 # the rows of the table of worked cases, each of which begins with a name or a bracket; the first follows no other
 cases=$((1 + $(grep -cE '^    ∷ [a-z(]' crates/cases/specs/Cases.antt)))
