@@ -1,27 +1,16 @@
-//! Guess, certify, follow: its budgets against the definition of the plan, every guess by itself, and what the splitting costs.
+//! Guess, certify, follow: its budgets against the definition of the plan, and the curve by itself.
 
 use energy::{Figures, Frames as Lent};
-use evidence::algorithms::certificate::curve::{curve, knots};
 use evidence::algorithms::certificate::frame::{Bounded, Frame, Frames, Listed, Plain};
 use evidence::algorithms::certificate::search::search;
-use evidence::algorithms::certificate::sight::{draw_by_sight, first_apex, ALLOWANCE};
-use evidence::algorithms::certificate::{by_split, by_string, finish, needed, plan_frames, Counters, Scratch};
+use evidence::algorithms::certificate::{by_curve, needed, plan_frames, Counters, Scratch};
 use evidence::bounds::{around, Kind, KINDS};
-use evidence::families::{full, request, Family, Size, FAMILIES, FRAMES, SIZES};
+use evidence::families::{full, request, Family, FAMILIES, FRAMES, SIZES};
 use evidence::random::{seed, Random};
 use evidence::reference::charge::Store;
 use evidence::reference::limits::MAX_FRAMES;
 use evidence::reference::needed::needed as defined_needed;
 use std::fmt::Debug;
-
-/// No frame is weighed more often by the splitting: every fourth weighing halves its interval of at most 2^32 levels.
-const WEIGHINGS: u64 = 4 * 33;
-
-/// No large request has so many weighings for each of its frames; the most that was seen is 12.4.
-const LARGE_WEIGHINGS: f64 = 20.0;
-
-/// Allowances of the string: drawn by the funnel alone, as plans have it, and by sight alone.
-const ALLOWANCES: [u64; 3] = [0, ALLOWANCE, u64::MAX];
 
 /// Numbers that stand for no upper end.
 const UNLIMITED: u64 = (1 << 32) - 1;
@@ -190,35 +179,21 @@ fn plain<'a>(most: u32, harvest: &'a [u32], random: &mut Random) -> Plain<'a> {
     Plain::new(capacity, start, end.min(start + all), harvest)
 }
 
-/// The plan by all guesses in their order.
-fn planned(frames: &impl Frames, counters: &mut Counters) -> Vec<u32> {
+/// The plan as the planner finds it.
+fn planned(frames: &(impl Frames + Debug), counters: &mut Counters) -> Vec<u32> {
     let mut budgets = vec![0; frames.count()];
     plan_frames(frames, &mut Scratch::new(frames.count()), &mut budgets, counters);
     budgets
 }
 
-/// The plan by the string alone, if it is certified.
-fn string_alone(frames: &impl Frames, allowance: u64) -> Option<Vec<u32>> {
+/// The plan by the curve alone, which loses no knot.
+fn by_curve_alone(frames: &(impl Frames + Debug)) -> Vec<u32> {
     let mut budgets = vec![0; frames.count()];
-    by_string(frames, allowance, &mut Scratch::new(frames.count()), &mut budgets).then_some(budgets)
-}
-
-/// The plan by the curve alone; none where its allowance is used up.
-fn curve_alone(frames: &(impl Frames + Debug)) -> Option<Vec<u32>> {
-    let count = frames.count();
-    let mut levels = vec![0; count];
-    let drawn = curve(frames, &mut levels, &mut vec![0; count], &mut vec![0; knots(count)]);
-    drawn.then(|| {
-        let certified = finish(frames, &mut Scratch::new(count), &mut levels);
-        assert!(certified, "the curve of {frames:?}");
-        levels
-    })
-}
-
-/// The plan by the splitting alone, if it is certified.
-fn split_alone(frames: &impl Frames, counters: &mut Counters) -> Option<Vec<u32>> {
-    let mut budgets = vec![0; frames.count()];
-    by_split(frames, &mut Scratch::new(frames.count()), &mut budgets, counters).then_some(budgets)
+    let mut scratch = Scratch::new(frames.count());
+    let certified = by_curve(frames, &mut scratch, &mut budgets);
+    assert_eq!(scratch.knots.lost, 0, "knots of {frames:?}");
+    assert!(certified, "the curve of {frames:?}");
+    budgets
 }
 
 /// The plan by the fallback.
@@ -228,69 +203,27 @@ fn searched(frames: &impl Frames) -> Vec<u32> {
     budgets
 }
 
-/// What a test has seen: which guesses were certified in their order, and what the splitting alone cost.
+/// What a test has seen: by what the plans were found.
 #[derive(Default)]
-struct Seen {
-    guesses: Counters,
-    alone: Counters,
-    worst: f64,
-    /// Curves that were given up.
-    given_up: u64,
-}
+struct Seen(Counters);
 
 impl Seen {
-    /// The plan, by all guesses in their order, by the curve alone and by the splitting alone.
+    /// The plan, which the curve alone finds too.
     fn plan(&mut self, frames: &(impl Frames + Debug)) -> Vec<u32> {
-        let plan = planned(frames, &mut self.guesses);
-        match curve_alone(frames) {
-            Some(levels) => assert_eq!(levels, plan, "the curve of {frames:?}"),
-            None => self.given_up += 1,
-        }
-        let mut counters = Counters::default();
-        let split = split_alone(frames, &mut counters);
-        assert_eq!(split.as_ref(), Some(&plan), "the splitting of {frames:?}");
-        self.alone.split_frames += counters.split_frames;
-        self.alone.weighed += counters.weighed;
-        self.alone.most_weighed = self.alone.most_weighed.max(counters.most_weighed);
-        self.worst = self.worst.max(counters.weighed as f64 / counters.split_frames as f64);
+        let plan = planned(frames, &mut self.0);
+        assert_eq!(by_curve_alone(frames), plan, "the curve of {frames:?}");
         plan
     }
 
-    /// The plan of a request of document 01, which the string alone finds too, however it is drawn.
-    fn plain_plan(&mut self, plain: Plain) -> Vec<u32> {
-        let plan = self.plan(&plain);
-        for allowance in ALLOWANCES {
-            let string = string_alone(&plain, allowance);
-            assert_eq!(string.as_ref(), Some(&plan), "the string of {plain:?} by {allowance}");
-        }
-        plan
-    }
-
-    /// Prints what was seen, and gives the weighings of the worst request for each of its frames. No budget was searched, and
-    /// no frame was weighed too often.
-    fn close(self, name: &str) -> f64 {
-        let Seen {
-            guesses,
-            alone,
-            worst,
-            given_up,
-        } = self;
+    /// Prints what was seen. No budget was searched.
+    fn close(self, name: &str) {
         let Counters {
             one_level,
-            string,
             curve,
-            split,
             search,
-            ..
-        } = guesses;
-        println!("{name}: certified: one level {one_level}, string {string}, curve {curve}, splitting {split}");
-        println!("{name}: searched: {search}; curves given up: {given_up}");
-        let mean = alone.weighed as f64 / alone.split_frames as f64;
-        let most = alone.most_weighed;
-        println!("{name}: weighings: mean {mean:.2}, of the worst request {worst:.2}, of the worst frame {most}");
+        } = self.0;
+        println!("{name}: certified: one level {one_level}, curve {curve}; searched {search}");
         assert_eq!(search, 0, "a certificate failed");
-        assert!(most <= WEIGHINGS, "{most} weighings of a frame");
-        worst
     }
 }
 
@@ -333,15 +266,10 @@ fn small_requests_of_document_01_against_the_definition() {
         let Plain {
             capacity, start, end, ..
         } = plain;
-        assert_eq!(
-            seen.plain_plan(plain),
-            defined(&Listed { start, end, frames }),
-            "{plain:?}"
-        );
+        assert_eq!(seen.plan(&plain), defined(&Listed { start, end, frames }), "{plain:?}");
         let least = defined_needed(Store { capacity, start, end }, Lent::unbounded(&harvest));
         assert_eq!(needed(start, end, &harvest), least, "{plain:?}");
     }
-    assert_eq!(seen.guesses.split, 0, "a string was not certified");
     seen.close("small requests of document 01");
 }
 
@@ -355,14 +283,13 @@ fn families_and_sizes() {
                     let mut random = Random::of_case(seed(), 9_000_000 + i as u64);
                     let (figures, harvest) = request(family, size, frames, most, &mut random);
                     for Figures { capacity, start, end } in [figures, full(figures)] {
-                        seen.plain_plan(Plain::new(capacity.into(), start.into(), end.into(), &harvest));
+                        seen.plan(&Plain::new(capacity.into(), start.into(), end.into(), &harvest));
                     }
                 }
             }
         }
     }
-    assert_eq!(seen.guesses.split, 0, "a string was not certified");
-    assert!(seen.close("families") < LARGE_WEIGHINGS);
+    seen.close("families");
 }
 
 /// The plan of a request with bounds around its budgets without.
@@ -390,33 +317,7 @@ fn families_and_sizes_with_bounds() {
                 }
             }
         }
-        if kind == Kind::Mixed {
-            assert_eq!(seen.guesses.split, 0, "a curve was given up");
-        }
         seen.close(&format!("families with bounds, {kind:?}"));
-    }
-}
-
-/// Whether the string of a family's request is drawn to its end by sight.
-fn is_in_sight(family: Family, size: Size, frames: usize) -> bool {
-    let (figures, harvest) = request(family, size, frames, 1_000, &mut Random::of_case(seed(), 12_000_000));
-    let Figures { capacity, start, end } = figures;
-    let plain = Plain::new(capacity.into(), start.into(), end.into(), &harvest);
-    let first = first_apex(plain.capacity, plain.start);
-    let mut levels = vec![0; frames];
-    draw_by_sight(&plain, plain.capacity, first, ALLOWANCE, &mut levels).frame == frames
-}
-
-#[test]
-fn strings_are_drawn_by_sight_and_by_the_funnel() {
-    for (family, seen) in [
-        (Family::Random, true),
-        (Family::Alternating, true),
-        (Family::Rising, false),
-        (Family::Falling, false),
-        (Family::Staircase, false),
-    ] {
-        assert_eq!(is_in_sight(family, Size::Small, MAX_FRAMES), seen, "{}", family.name());
     }
 }
 
@@ -428,10 +329,9 @@ fn large_requests_of_document_01() {
         let frames = 1 + random.up_to(MAX_FRAMES as u64 - 1) as usize;
         let most = *random.pick(&[2, 50, 1_000, 400_000]);
         let harvest = random.pick(&FAMILIES).harvest(frames, most, &mut random);
-        seen.plain_plan(plain(most, &harvest, &mut random));
+        seen.plan(&plain(most, &harvest, &mut random));
     }
-    assert_eq!(seen.guesses.split, 0, "a string was not certified");
-    assert!(seen.close("large requests of document 01") < LARGE_WEIGHINGS);
+    seen.close("large requests of document 01");
 }
 
 #[test]
@@ -446,5 +346,5 @@ fn large_general_requests() {
             assert_eq!(plan, searched(&request), "case {case}");
         }
     }
-    assert!(seen.close("large general requests") < LARGE_WEIGHINGS);
+    seen.close("large general requests");
 }

@@ -41,12 +41,8 @@ pub trait Frames {
     fn at(&self, i: usize) -> Frame;
     /// The most of a frame; the top where it has no upper end.
     fn upper_end(&self, i: usize) -> u64;
-    /// All that comes in, less what is drained.
-    fn brought(&self) -> u64;
     /// All that there is: no budget is above it.
     fn energy(&self) -> u64;
-    /// The capacity where no frame is bounded or drained and every ceiling is the capacity and the inflow.
-    fn plain_capacity(&self) -> Option<u64>;
 }
 
 /// Document 01's frames: the harvest comes on top of the capacity, and no budget is above `most`, all that there is.
@@ -106,16 +102,8 @@ impl Frames for Plain<'_> {
         TOP
     }
 
-    fn brought(&self) -> u64 {
-        self.most - self.start
-    }
-
     fn energy(&self) -> u64 {
         self.most
-    }
-
-    fn plain_capacity(&self) -> Option<u64> {
-        Some(self.capacity)
     }
 }
 
@@ -164,17 +152,8 @@ impl Frames for Bounded<'_> {
         u64::from(self.most[i])
     }
 
-    fn brought(&self) -> u64 {
-        self.plain.brought()
-    }
-
     fn energy(&self) -> u64 {
         self.plain.energy()
-    }
-
-    fn plain_capacity(&self) -> Option<u64> {
-        let unbounded = self.least.iter().all(|&l| l == 0) && self.most.iter().all(|&m| m == NO_UPPER_END);
-        unbounded.then_some(self.plain.capacity)
     }
 }
 
@@ -207,20 +186,7 @@ impl Frames for Listed {
         self.frames[i].most
     }
 
-    fn brought(&self) -> u64 {
-        let sum = |part: fn(&Frame) -> u64| self.frames.iter().map(part).sum::<u64>();
-        sum(|f| f.inflow).saturating_sub(sum(|f| f.drain))
-    }
-
     fn energy(&self) -> u64 {
         self.start + self.frames.iter().map(|f| f.inflow).sum::<u64>()
-    }
-
-    fn plain_capacity(&self) -> Option<u64> {
-        let all = self.start + self.brought();
-        let first = self.frames.first()?;
-        let capacity = first.ceiling.checked_sub(first.inflow)?;
-        let plain = |f: &Frame| f.ceiling == capacity + f.inflow && f.drain == 0 && f.least == 0 && f.most >= all;
-        (self.start <= capacity && self.end <= capacity && self.frames.iter().all(plain)).then_some(capacity)
     }
 }

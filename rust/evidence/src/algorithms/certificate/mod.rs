@@ -11,33 +11,23 @@ pub mod follow;
 pub mod frame;
 pub mod one_level;
 pub mod search;
-pub mod sight;
-pub mod split;
-pub mod string;
 
+use curve::Knots;
 use frame::{Frames, Plain};
 
-/// Which guess was certified, and what the splitting cost.
+/// By what plans were found.
 #[derive(Clone, Copy, Debug, Default, PartialEq, Eq)]
 pub struct Counters {
     pub one_level: u64,
-    pub string: u64,
     pub curve: u64,
-    pub split: u64,
     /// No guess was certified: every frame's budget was searched.
     pub search: u64,
-    /// Frames of all requests that the splitting was asked for, and how many it weighed for them.
-    pub split_frames: u64,
-    pub weighed: u64,
-    /// The most weighings of any one frame.
-    pub most_weighed: u64,
 }
 
 /// The lists that a plan needs besides its budgets.
 pub struct Scratch {
     after: Vec<u32>,
-    marks: Vec<u32>,
-    knots: Vec<u64>,
+    pub knots: Knots,
 }
 
 impl Scratch {
@@ -45,98 +35,47 @@ impl Scratch {
     pub fn new(frames: usize) -> Scratch {
         Scratch {
             after: vec![0; frames],
-            marks: vec![0; frames],
-            knots: vec![0; curve::knots(frames)],
+            knots: Knots::for_frames(frames),
         }
     }
 }
 
 /// Certifies the levels and turns them into budgets; false, with the levels as they were, if they are not the plan's.
-pub fn finish(frames: &impl Frames, scratch: &mut Scratch, levels: &mut [u32]) -> bool {
-    if !certify::certify(frames, levels, &mut scratch.after) {
-        return false;
+fn by_levels(frames: &impl Frames, after: &mut [u32], levels: &mut [u32]) -> bool {
+    let certified = certify::certify(frames, levels, after);
+    if certified {
+        follow::follow(frames, after, levels);
     }
-    follow::follow(frames, &scratch.after, levels);
-    true
+    certified
 }
 
-/// The plan by one level for all frames.
+/// The plan by one level for all frames, if there is one worth trying.
 pub fn by_one_level(frames: &impl Frames, scratch: &mut Scratch, budgets: &mut [u32]) -> bool {
-    one_level::one_level(frames, budgets) && finish(frames, scratch, budgets)
-}
-
-/// The same where some frame is bounded.
-pub fn by_one_shared_level(frames: &impl Frames, scratch: &mut Scratch, budgets: &mut [u32]) -> bool {
-    one_level::one_shared_level(frames, budgets) && finish(frames, scratch, budgets)
-}
-
-/// The plan by the string, where no frame is bounded. The allowance is that of drawing it by sight: with none, the funnel draws
-/// it alone.
-pub fn by_string(frames: &impl Frames, allowance: u64, scratch: &mut Scratch, budgets: &mut [u32]) -> bool {
-    match frames.plain_capacity() {
-        Some(capacity) => {
-            let Scratch { after, marks, .. } = scratch;
-            string::string(frames, capacity, allowance, budgets, marks, after);
-            finish(frames, scratch, budgets)
+    match one_level::one_level(frames) {
+        Some(level) => {
+            budgets.fill(level);
+            by_levels(frames, &mut scratch.after, budgets)
         }
         None => false,
     }
 }
 
-/// The plan by the curve.
+/// The plan by the curve, which keeps the highest levels in `after`.
 pub fn by_curve(frames: &impl Frames, scratch: &mut Scratch, budgets: &mut [u32]) -> bool {
-    let Scratch { marks, knots, .. } = scratch;
-    curve::curve(frames, budgets, marks, knots) && finish(frames, scratch, budgets)
+    let Scratch { after, knots } = scratch;
+    curve::curve(frames, budgets, after, knots);
+    by_levels(frames, after, budgets)
 }
 
-/// The plan by the splitting.
-pub fn by_split(frames: &impl Frames, scratch: &mut Scratch, budgets: &mut [u32], counters: &mut Counters) -> bool {
-    counters.split_frames += frames.count() as u64;
-    let Scratch { after, marks, .. } = scratch;
-    split::split(frames, budgets, after, marks, &mut counters.weighed);
-    // The splitting leaves there how often each frame was weighed.
-    let most = marks[..frames.count()].iter().copied().max().unwrap_or(0);
-    counters.most_weighed = counters.most_weighed.max(most.into());
-    finish(frames, scratch, budgets)
-}
-
-/// Writes the plan by the splitting, or else every budget searched.
-fn plan_by_splitting(frames: &impl Frames, scratch: &mut Scratch, budgets: &mut [u32], counters: &mut Counters) {
-    if by_split(frames, scratch, budgets, counters) {
-        counters.split += 1;
-    } else {
-        search::search(frames, budgets);
-        counters.search += 1;
-    }
-}
-
-/// Writes the plan where some frame is bounded.
-fn plan_bounded(frames: &impl Frames, scratch: &mut Scratch, budgets: &mut [u32], counters: &mut Counters) {
-    if by_one_shared_level(frames, scratch, budgets) {
+/// Writes the plan of frames in which something is feasible: by one level, by the curve, or by a search in every frame.
+pub fn plan_frames(frames: &impl Frames, scratch: &mut Scratch, budgets: &mut [u32], counters: &mut Counters) {
+    if by_one_level(frames, scratch, budgets) {
         counters.one_level += 1;
     } else if by_curve(frames, scratch, budgets) {
         counters.curve += 1;
     } else {
-        plan_by_splitting(frames, scratch, budgets, counters);
-    }
-}
-
-/// Writes the plan where no frame is bounded.
-fn plan_unbounded(frames: &impl Frames, scratch: &mut Scratch, budgets: &mut [u32], counters: &mut Counters) {
-    if by_one_level(frames, scratch, budgets) {
-        counters.one_level += 1;
-    } else if by_string(frames, sight::ALLOWANCE, scratch, budgets) {
-        counters.string += 1;
-    } else {
-        plan_by_splitting(frames, scratch, budgets, counters);
-    }
-}
-
-/// Writes the plan of frames in which something is feasible: the first guess that is certified, or else every budget searched.
-pub fn plan_frames(frames: &impl Frames, scratch: &mut Scratch, budgets: &mut [u32], counters: &mut Counters) {
-    match frames.plain_capacity() {
-        Some(_) => plan_unbounded(frames, scratch, budgets, counters),
-        None => plan_bounded(frames, scratch, budgets, counters),
+        search::search(frames, budgets);
+        counters.search += 1;
     }
 }
 

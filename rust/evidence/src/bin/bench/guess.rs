@@ -16,20 +16,10 @@ pub fn guess(row: &Row) -> String {
     row.requests(COUNTED)
         .iter()
         .for_each(|request| count(request, &mut counters));
-    let Counters {
-        one_level,
-        string,
-        curve,
-        split,
-        search,
-        ..
-    } = counters;
     let all = [
-        ("one level", one_level),
-        ("string", string),
-        ("curve", curve),
-        ("splitting", split),
-        ("searched", search),
+        ("one level", counters.one_level),
+        ("curve", counters.curve),
+        ("searched", counters.search),
     ];
     let seen = all.iter().filter(|(_, count)| *count > 0);
     let seen: Vec<String> = seen.map(|(name, count)| format!("{name} {count}")).collect();
