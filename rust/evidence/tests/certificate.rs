@@ -40,15 +40,15 @@ fn defined(request: &Listed) -> Vec<u32> {
     budgets
 }
 
-/// Whether anything is feasible: the leasts are.
-fn reachable(request: &Listed) -> bool {
+/// Whether budgets are within their bounds and can be drawn until the end.
+fn are_feasible(request: &Listed, budgets: impl Iterator<Item = u64>) -> bool {
     let mut charge = request.start;
-    for f in &request.frames {
+    for (f, budget) in request.frames.iter().zip(budgets) {
         let room = f.room(charge);
-        if f.most < f.least || room < f.drain + f.least {
+        if budget < f.least || f.most < budget || room < f.drain + budget {
             return false;
         }
-        charge = room - f.drain - f.least;
+        charge = room - f.drain - budget;
     }
     request.end <= charge
 }
@@ -63,109 +63,161 @@ enum Ceiling {
 
 const CEILINGS: [Ceiling; 3] = [Ceiling::OnTop, Ceiling::Within, Ceiling::Unlimited];
 
-/// Which bounds a request has, and how large they are.
+/// How the bounds of a request lie.
+#[derive(Clone, Copy, PartialEq)]
+enum Shape {
+    /// Some frames have a least, some a most, and now and then a frame is bound to one budget.
+    Mixed,
+    /// A least and a most near to each other in every frame.
+    Close,
+    /// The bounds of every frame lie within those of the next one.
+    Nested,
+}
+
+const SHAPES: [Shape; 4] = [Shape::Mixed, Shape::Mixed, Shape::Close, Shape::Nested];
+
+/// What general frames have besides their harvests: of both kinds of bounds each may be absent, and loads are at most so large.
 #[derive(Clone, Copy)]
-struct Bounds {
+struct Terms {
     ceiling: Ceiling,
+    shape: Shape,
     leasts: bool,
     mosts: bool,
     load: u64,
 }
 
-/// Random bounds of every kind.
-fn bounds(most: u32, random: &mut Random) -> Bounds {
-    Bounds {
-        ceiling: *random.pick(&CEILINGS),
-        leasts: random.one_in(2),
-        mosts: random.one_in(2),
-        load: if random.one_in(2) {
-            random.up_to(u64::from(most) / 6)
-        } else {
-            0
-        },
+impl Terms {
+    /// Random terms of every kind, for harvests of about `most`.
+    fn any(most: u32, random: &mut Random) -> Terms {
+        Terms {
+            ceiling: *random.pick(&CEILINGS),
+            shape: *random.pick(&SHAPES),
+            leasts: random.one_in(2),
+            mosts: random.one_in(2),
+            load: u64::from(random.one_in(2)) * random.up_to(u64::from(most) / 6),
+        }
     }
-}
 
-/// The general frames of harvests: now and then a frame is bound to one budget, or to none.
-fn general(capacity: u64, start: u64, end: u64, harvest: &[u32], b: Bounds, random: &mut Random) -> Listed {
-    let largest = u64::from(harvest.iter().copied().max().unwrap_or(0));
-    let frames = harvest.iter().map(|&h| {
-        let inflow = u64::from(h);
-        let ceiling = match b.ceiling {
+    /// What frame `i` has as its least and its most, of a request whose frames may draw about `scale`.
+    fn bounds(self, i: u64, scale: u64, random: &mut Random) -> (u64, u64) {
+        let (least, most) = match self.shape {
+            Shape::Mixed => {
+                let least = u64::from(random.one_in(3)) * random.up_to(scale / 4);
+                match random.up_to(5) {
+                    0 => (least, least),
+                    1 | 2 => (least, least + random.up_to(scale)),
+                    _ => (least, UNBOUNDED),
+                }
+            }
+            Shape::Close => {
+                let least = scale / 8 + random.up_to(scale / 4);
+                (least, least + random.up_to(scale / 16))
+            }
+            Shape::Nested => ((scale / 4).saturating_sub(i), scale / 4 + 1 + i),
+        };
+        (
+            if self.leasts { least } else { 0 },
+            if self.mosts { most } else { UNBOUNDED },
+        )
+    }
+
+    /// The frame with so much harvest.
+    fn frame(self, capacity: u64, inflow: u64, (least, most): (u64, u64), random: &mut Random) -> Frame {
+        let ceiling = match self.ceiling {
             Ceiling::OnTop => capacity + inflow,
             Ceiling::Within => capacity,
             Ceiling::Unlimited => UNLIMITED,
         };
-        let least = if b.leasts && random.one_in(3) {
-            random.up_to(largest / 4)
-        } else {
-            0
-        };
-        let most = match random.up_to(5) {
-            0 if b.mosts => least,
-            1 | 2 if b.mosts => least + random.up_to(largest),
-            _ => UNBOUNDED,
-        };
         Frame {
             inflow,
             ceiling,
-            drain: b.load,
+            drain: random.up_to(self.load),
             least,
             most,
         }
-    });
-    let frames = frames.collect();
-    Listed { start, end, frames }
+    }
 }
 
-/// The same request with less asked of it until it is within reach: half the leasts and drains, then no end charge.
-fn within_reach(request: Listed) -> Listed {
-    let mut request = request;
-    while !reachable(&request) {
-        if request.frames.iter().all(|f| f.least + f.drain == 0) {
-            request.end /= 2;
-        }
-        for f in &mut request.frames {
-            f.least /= 2;
-            f.drain /= 2;
+/// A request of general frames, and what it was made of.
+struct General {
+    capacity: u64,
+    terms: Terms,
+    request: Listed,
+}
+
+impl General {
+    /// The frames of harvests.
+    fn new(capacity: u64, start: u64, end: u64, harvest: &[u32], terms: Terms, random: &mut Random) -> General {
+        let largest = u64::from(harvest.iter().copied().max().unwrap_or(0));
+        let scale = largest.max(start / (harvest.len() as u64).max(1));
+        let frames = harvest.iter().zip(0..).map(|(&h, i)| {
+            let bounds = terms.bounds(i, scale, random);
+            terms.frame(capacity, h.into(), bounds, random)
+        });
+        let frames = frames.collect();
+        let request = Listed { start, end, frames };
+        General {
+            capacity,
+            terms,
+            request,
         }
     }
-    request
-}
 
-/// A random request of few general frames, with harvests of about `most`.
-fn small(most: u32, random: &mut Random) -> Listed {
-    let frames = 1 + random.up_to(7) as usize;
-    let harvest = match random.up_to(2) {
-        0 => random.pick(&FAMILIES).harvest(frames, most, random),
-        _ => random.list(frames, most),
-    };
-    let capacity = random.up_to(u64::from(most) * 3);
-    let start = random.up_to(capacity);
-    let end = random.up_to(capacity);
-    let b = bounds(most, random);
-    let mut request = general(capacity, start, end, &harvest, b, random);
-    if random.one_in(4) {
-        // Any frames at all.
-        for f in &mut request.frames {
-            f.ceiling = random.up_to(u64::from(most) * 3);
-            f.drain = random.up_to(u64::from(most) / 3);
+    /// The same request with less asked of it until it is within reach.
+    fn within_reach(mut self, random: &mut Random) -> General {
+        let request = &mut self.request;
+        while !are_feasible(request, request.frames.iter().map(|f| f.least)) {
+            if random.one_in(2) {
+                request.end /= 2;
+                continue;
+            }
+            for f in &mut request.frames {
+                f.least /= 2;
+                f.drain /= 2;
+            }
         }
+        self
     }
-    within_reach(request)
-}
 
-/// A random large request of general frames.
-fn large(frames: usize, random: &mut Random) -> Listed {
-    let most = *random.pick(&[3, 50, 1_000, 400_000]);
-    let family: Family = *random.pick(&FAMILIES);
-    let harvest = family.harvest(frames, most, random);
-    let worth = *random.pick(&[0, 1, 2, 8, 40, 200]);
-    let capacity = random.up_to(u64::from(most) * worth);
-    let start = *random.pick(&[0, capacity / 2, capacity]);
-    let end = *random.pick(&[0, capacity / 2, capacity]);
-    let b = bounds(most, random);
-    within_reach(general(capacity, start, end, &harvest, b, random))
+    /// A random request of few frames, with harvests of about `most`.
+    fn small(most: u32, random: &mut Random) -> General {
+        let frames = 1 + random.up_to(7) as usize;
+        let harvest = match random.up_to(2) {
+            0 => random.pick(&FAMILIES).harvest(frames, most, random),
+            _ => random.list(frames, most),
+        };
+        let capacity = random.up_to(u64::from(most) * 3);
+        let start = random.up_to(capacity);
+        let end = random.up_to(capacity);
+        let terms = Terms::any(most, random);
+        let mut general = General::new(capacity, start, end, &harvest, terms, random);
+        if random.one_in(4) {
+            // Any frames at all.
+            for f in &mut general.request.frames {
+                f.ceiling = random.up_to(u64::from(most) * 3);
+                f.drain = random.up_to(u64::from(most) / 3);
+            }
+        }
+        general.within_reach(random)
+    }
+
+    /// A random request of so many frames.
+    fn any(frames: usize, random: &mut Random) -> General {
+        let most = *random.pick(&[3, 50, 1_000, 400_000]);
+        let family: Family = *random.pick(&FAMILIES);
+        let harvest = family.harvest(frames, most, random);
+        let worth = *random.pick(&[0, 1, 2, 8, 40, 200]);
+        let capacity = random.up_to(u64::from(most) * worth);
+        let start = *random.pick(&[0, capacity / 2, capacity]);
+        let end = *random.pick(&[0, capacity / 2, capacity]);
+        let terms = Terms::any(most, random);
+        General::new(capacity, start, end, &harvest, terms, random).within_reach(random)
+    }
+
+    /// Whether some frame has what is asked.
+    fn has(&self, what: fn(&Frame) -> bool) -> bool {
+        self.request.frames.iter().any(what)
+    }
 }
 
 /// Random figures for harvests: any capacity, start and end within reach.
@@ -179,10 +231,12 @@ fn plain<'a>(most: u32, harvest: &'a [u32], random: &mut Random) -> Plain<'a> {
     Plain::new(capacity, start, end.min(start + all), harvest)
 }
 
-/// The plan as the planner finds it.
+/// The plan as the planner finds it; a curve loses no knot.
 fn planned(frames: &(impl Frames + Debug), counters: &mut Counters) -> Vec<u32> {
     let mut budgets = vec![0; frames.count()];
-    plan_frames(frames, &mut Scratch::new(frames.count()), &mut budgets, counters);
+    let mut scratch = Scratch::new(frames.count());
+    plan_frames(frames, &mut scratch, &mut budgets, counters);
+    assert_eq!(scratch.knots.lost, 0, "knots of {frames:?}");
     budgets
 }
 
@@ -190,9 +244,8 @@ fn planned(frames: &(impl Frames + Debug), counters: &mut Counters) -> Vec<u32> 
 fn by_curve_alone(frames: &(impl Frames + Debug)) -> Vec<u32> {
     let mut budgets = vec![0; frames.count()];
     let mut scratch = Scratch::new(frames.count());
-    let certified = by_curve(frames, &mut scratch, &mut budgets);
+    assert!(by_curve(frames, &mut scratch, &mut budgets), "the curve of {frames:?}");
     assert_eq!(scratch.knots.lost, 0, "knots of {frames:?}");
-    assert!(certified, "the curve of {frames:?}");
     budgets
 }
 
@@ -208,10 +261,11 @@ fn searched(frames: &impl Frames) -> Vec<u32> {
 struct Seen(Counters);
 
 impl Seen {
-    /// The plan, which the curve alone finds too.
+    /// The plan, which the curve alone and the fallback find too.
     fn plan(&mut self, frames: &(impl Frames + Debug)) -> Vec<u32> {
         let plan = planned(frames, &mut self.0);
         assert_eq!(by_curve_alone(frames), plan, "the curve of {frames:?}");
+        assert_eq!(searched(frames), plan, "{frames:?}");
         plan
     }
 
@@ -233,10 +287,8 @@ fn small_general_requests_against_the_definition() {
     for case in 0..150_000 {
         let mut random = Random::of_case(seed(), 7_000_000 + case);
         let most = *random.pick(&[1, 3, 10, 30]);
-        let request = small(most, &mut random);
-        let plan = defined(&request);
-        assert_eq!(seen.plan(&request), plan, "{request:?}");
-        assert_eq!(searched(&request), plan, "{request:?}");
+        let General { request, .. } = General::small(most, &mut random);
+        assert_eq!(seen.plan(&request), defined(&request), "{request:?}");
     }
     seen.close("small general requests");
 }
@@ -247,8 +299,7 @@ fn few_general_frames_with_large_figures() {
     for case in 0..50_000 {
         let mut random = Random::of_case(seed(), 13_000_000 + case);
         let most = *random.pick(&[1_000, 400_000, 100_000_000]);
-        let request = small(most, &mut random);
-        assert_eq!(seen.plan(&request), searched(&request), "{request:?}");
+        seen.plan(&General::small(most, &mut random).request);
     }
     seen.close("few general frames with large figures");
 }
@@ -292,14 +343,14 @@ fn families_and_sizes() {
     seen.close("families");
 }
 
-/// The plan of a request with bounds around its budgets without.
-fn bounded_plan(seen: &mut Seen, kind: Kind, figures: Figures, harvest: &[u32], random: &mut Random) -> Vec<u32> {
+/// Plans a request with bounds around its budgets without.
+fn plan_bounded(seen: &mut Seen, kind: Kind, figures: Figures, harvest: &[u32], random: &mut Random) {
     let Figures { capacity, start, end } = figures;
     let plain = Plain::new(capacity.into(), start.into(), end.into(), harvest);
     let without = planned(&plain, &mut Counters::default());
     let (least, most) = around(kind, figures, harvest, &without, random);
     let (least, most) = (&least, &most);
-    seen.plan(&Bounded { plain, least, most })
+    seen.plan(&Bounded { plain, least, most });
 }
 
 #[test]
@@ -312,7 +363,7 @@ fn families_and_sizes_with_bounds() {
                     let mut random = Random::of_case(seed(), 14_000_000 + i as u64);
                     let (figures, harvest) = request(family, size, frames, 1_000, &mut random);
                     for figures in [figures, full(figures)] {
-                        bounded_plan(&mut seen, kind, figures, &harvest, &mut random);
+                        plan_bounded(&mut seen, kind, figures, &harvest, &mut random);
                     }
                 }
             }
@@ -340,11 +391,88 @@ fn large_general_requests() {
     for case in 0..2_000 {
         let mut random = Random::of_case(seed(), 10_000_000 + case);
         let frames = *random.pick(&FRAMES);
-        let request = large(frames, &mut random);
-        let plan = seen.plan(&request);
-        if case % 4 == 0 {
-            assert_eq!(plan, searched(&request), "case {case}");
-        }
+        seen.plan(&General::any(frames, &mut random).request);
     }
     seen.close("large general requests");
+}
+
+/// Frames without harvest whose bounds lie each within those of the next one: every knot goes to the middle of the others.
+#[test]
+fn nested_bounds_lose_no_knot() {
+    let mut seen = Seen::default();
+    for frames in FRAMES {
+        let harvest = vec![0; frames];
+        let least: Vec<u32> = (0..frames as u32).map(|i| 99_999 - i).collect();
+        let most: Vec<u32> = (0..frames as u32).map(|i| 100_001 + i).collect();
+        let (least, most) = (&least, &most);
+        for start in [100_000 * frames as u64, 1_000_000_000] {
+            let plain = Plain::new(1_000_000_000, start, 0, &harvest);
+            seen.plan(&Bounded { plain, least, most });
+        }
+    }
+    seen.close("nested bounds");
+}
+
+/// How many frames one of the million requests has: mostly few, now and then as many as a day or more.
+fn mixed_count(random: &mut Random) -> usize {
+    let frames = match random.up_to(99) {
+        0..=59 => 1 + random.up_to(11),
+        60..=84 => 12 + random.up_to(27),
+        85..=95 => 40 + random.up_to(55),
+        _ => 96 + random.up_to(MAX_FRAMES as u64 - 96),
+    };
+    frames as usize
+}
+
+/// What there is among the million requests, and at least how often.
+const AMONG_THE_MILLION: [(&str, u64, fn(&General) -> bool); 12] = [
+    ("harvests on top of the capacity", 300_000, |g| {
+        g.terms.ceiling == Ceiling::OnTop
+    }),
+    ("harvests within the capacity", 300_000, |g| {
+        g.terms.ceiling == Ceiling::Within
+    }),
+    ("no upper end of the charge", 300_000, |g| {
+        g.terms.ceiling == Ceiling::Unlimited
+    }),
+    ("loads", 200_000, |g| g.has(|f| 0 < f.drain)),
+    ("leasts", 200_000, |g| g.has(|f| 0 < f.least)),
+    ("mosts", 200_000, |g| g.has(|f| f.most < UNBOUNDED)),
+    ("frames with both", 100_000, |g| {
+        g.has(|f| 0 < f.least && f.most < UNBOUNDED)
+    }),
+    ("close bounds", 100_000, |g| g.terms.shape == Shape::Close),
+    ("nested bounds", 100_000, |g| g.terms.shape == Shape::Nested),
+    ("no capacity", 100_000, |g| g.capacity == 0),
+    ("full stores", 20_000, |g| {
+        0 < g.capacity && g.request.start == g.capacity && g.request.end == g.capacity
+    }),
+    ("a day or more", 30_000, |g| 96 <= g.request.frames.len()),
+];
+
+#[test]
+fn no_budget_is_searched_in_a_million_requests() {
+    let mut counters = Counters::default();
+    let mut met = AMONG_THE_MILLION.map(|_| 0);
+    for case in 0..1_000_000 {
+        let mut random = Random::of_case(seed(), 20_000_000 + case);
+        let frames = mixed_count(&mut random);
+        let general = General::any(frames, &mut random);
+        let request = &general.request;
+        let plan = planned(request, &mut counters);
+        assert!(are_feasible(request, plan.iter().map(|&b| b.into())), "{request:?}");
+        if case % 100 == 0 {
+            assert_eq!(searched(request), plan, "{request:?}");
+        }
+        for ((_, _, is_met), count) in AMONG_THE_MILLION.iter().zip(&mut met) {
+            *count += u64::from(is_met(&general));
+        }
+    }
+    for ((name, least, _), count) in AMONG_THE_MILLION.iter().zip(met) {
+        println!("a million requests: {name}: {count}");
+        assert!(*least <= count, "{name}: {count}");
+    }
+    assert_eq!(counters.one_level + counters.curve, 1_000_000);
+    assert!(300_000 <= counters.curve, "{} curves", counters.curve);
+    Seen(counters).close("a million requests");
 }
