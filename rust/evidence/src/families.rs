@@ -170,3 +170,20 @@ pub fn bounded(figures: Figures, harvest: Vec<u32>, random: &mut Random) -> List
     let (least, most) = around(Kind::Mixed, figures, &harvest, &plan, random);
     Lists { harvest, least, most }
 }
+
+/// A request of nested bounds: each frame may draw whatever the frame before may, and one less or more, and all of it out of the
+/// store. A curve of reserves has the most to do here: every frame moves all its knots.
+pub fn nested(frames: usize) -> (Figures, Lists) {
+    let figures = Figures {
+        capacity: MAX_CAPACITY,
+        start: MAX_CAPACITY,
+        end: 0,
+    };
+    let wider = 0..frames as u32;
+    let lists = Lists {
+        harvest: vec![0; frames],
+        least: wider.clone().map(|i| 99_999 - i).collect(),
+        most: wider.map(|i| 100_001 + i).collect(),
+    };
+    (figures, lists)
+}

@@ -1,95 +1,116 @@
-//! The aims for speed, and every row that misses one.
+//! The aims for speed of single rows, and every row that misses one.
 
-use crate::contenders::{Call, CALLS};
-use crate::measured::{Line, Measure, Measured};
-use evidence::families::{Family, FRAMES};
-use evidence::reference::limits::MAX_FRAMES;
-use std::fmt::Write;
+use crate::contenders::{Call, Contender};
+use crate::measured::{Measured, Unit, HALF_WEEK, TIMES, WEEK};
+use crate::rows::Row;
+use crate::words::{named, verdict, worst};
 
-const HALF_WEEK: usize = FRAMES[1];
-
-/// The most that instructions may grow by from half a week to a week.
-pub const GROWTH: f64 = 2.6;
-
-/// An aim: a figure of some rows and calls that is at most a limit.
+/// An aim: a figure of a call is at most a limit. Rows above another one are named, or the worst alone.
 struct Aim {
     what: &'static str,
+    call: Call,
     limit: f64,
-    figure: fn(&Line, Call, &Measure) -> Option<f64>,
+    named_above: Option<f64>,
+    figure: fn(&Measured, Unit, Call, Row) -> Option<f64>,
 }
 
-const AIMS: [Aim; 7] = [
+/// The ratio to the source's algorithm at half a week and more.
+fn to_source(measured: &Measured, unit: Unit, call: Call, row: Row) -> Option<f64> {
+    let ratio = measured.ratio(unit, call, Contender::Source, &[row]);
+    ratio.filter(|_| HALF_WEEK <= row.frames)
+}
+
+/// The ratio to the twin.
+fn to_twin(measured: &Measured, unit: Unit, call: Call, row: Row) -> Option<f64> {
+    measured.ratio(unit, call, Contender::Twin, &[row])
+}
+
+/// The microseconds of a week.
+fn week(measured: &Measured, unit: Unit, call: Call, row: Row) -> Option<f64> {
+    measured.library(unit, call, &[row]).filter(|_| row.frames == WEEK)
+}
+
+const AIMS: [Aim; 6] = [
     Aim {
-        what: "growth from half a week to a week without bounds at most 2.6 in instructions",
-        limit: GROWTH,
-        figure: |line, _, measure| measure.growth.filter(|_| !line.row.bounded),
-    },
-    Aim {
-        what: "plan at most 1.3 of the source's Algorithm 2 at half a week and more",
+        what: "plan at most 1.3 of the source's Algorithm 2 at half a week and more, slower rows named",
+        call: Call::Plan,
         limit: 1.3,
-        figure: |line, call, measure| {
-            let counts = HALF_WEEK <= line.row.frames && call == Call::Plan;
-            measure.source.filter(|_| counts)
-        },
+        named_above: Some(1.0),
+        figure: to_source,
     },
     Aim {
         what: "needed capacity at most 1.3 of the source's Algorithm 1 at half a week and more",
+        call: Call::Needed,
         limit: 1.3,
-        figure: |line, call, measure| {
-            let counts = HALF_WEEK <= line.row.frames && call == Call::Needed;
-            measure.source.filter(|_| counts)
-        },
+        named_above: Some(1.3),
+        figure: to_source,
     },
     Aim {
-        what: "daily sun no slower than the build beside",
-        limit: 1.0,
-        figure: |line, _, measure| measure.beside.filter(|_| line.row.family == Family::DailySun),
-    },
-    Aim {
-        what: "at most 1.3 of the build beside at a week",
+        what: "plan at most 1.3 of the twin",
+        call: Call::Plan,
         limit: 1.3,
-        figure: |line, _, measure| measure.beside.filter(|_| line.row.frames == MAX_FRAMES),
+        named_above: None,
+        figure: to_twin,
     },
     Aim {
-        what: "slowest row of the most frames at most 100 us",
+        what: "needed capacity at most 1.3 of the twin",
+        call: Call::Needed,
+        limit: 1.3,
+        named_above: None,
+        figure: to_twin,
+    },
+    Aim {
+        what: "plan of a week at most 100 us",
+        call: Call::Plan,
         limit: 100.0,
-        figure: |line, _, measure| (line.row.frames == MAX_FRAMES).then_some(measure.micros),
+        named_above: None,
+        figure: week,
     },
     Aim {
-        what: "at most 1.3 of the twin",
-        limit: 1.3,
-        figure: |_, _, measure| Some(measure.twin),
+        what: "needed capacity of a week at most 100 us",
+        call: Call::Needed,
+        limit: 100.0,
+        named_above: None,
+        figure: week,
     },
 ];
 
-/// The figures of an aim with their rows and calls, the worst first.
-fn figures(aim: &Aim, measured: &Measured) -> Vec<(f64, String)> {
-    let mut all = Vec::new();
-    for line in &measured.lines {
-        for (call, measure) in CALLS.into_iter().zip(&line.calls) {
-            let name = format!("{}, {}", call.name(), line.row.sentence());
-            all.extend((aim.figure)(line, call, measure).map(|figure| (figure, name)));
-        }
+impl Aim {
+    /// Its figures in one unit, in the order of the rows.
+    fn figures(&self, measured: &Measured, unit: Unit) -> Vec<(Row, f64)> {
+        let figure = |&row: &Row| Some((row, (self.figure)(measured, unit, self.call, row)?));
+        measured.rows.iter().filter_map(figure).collect()
     }
-    all.sort_by(|a, b| b.0.total_cmp(&a.0));
-    all
+
+    /// Whether its figures in one unit meet it, and the worst row.
+    fn judged(&self, measured: &Measured, unit: Unit) -> String {
+        let figures = self.figures(measured, unit);
+        let misses = figures.iter().filter(|(_, figure)| self.limit < *figure).count();
+        let met = verdict(misses == 0);
+        let worst = worst(&figures);
+        format!(
+            "{} {met}, {misses} of {} rows above, the worst {worst}",
+            unit.name(),
+            figures.len()
+        )
+    }
+
+    /// A line of the rows that are named in one unit, if there are any.
+    fn named(&self, measured: &Measured, unit: Unit) -> Option<String> {
+        let figures = self.figures(measured, unit);
+        let names = named(&figures, self.named_above?);
+        (!names.is_empty()).then(|| format!("  - {}: {names}\n", unit.name()))
+    }
+
+    /// What becomes of it in warm and in cold times.
+    fn report(&self, measured: &Measured) -> String {
+        let judged = TIMES.map(|unit| self.judged(measured, unit)).join("; ");
+        let named: String = TIMES.iter().filter_map(|&unit| self.named(measured, unit)).collect();
+        format!("- {}: {judged}\n{named}", self.what)
+    }
 }
 
-/// Each aim with its worst row, or with every row that misses it.
+/// Every aim.
 pub fn report(measured: &Measured) -> String {
-    let mut text = "\n## Aims\n\n".to_string();
-    for aim in AIMS {
-        let figures = figures(&aim, measured);
-        let misses = figures.iter().take_while(|figure| aim.limit < figure.0).count();
-        let verdict = match (figures.len(), misses) {
-            (0, _) => "not measured".to_string(),
-            (_, 0) => "met; the worst:".to_string(),
-            (all, some) => format!("missed by {some} of {all}:"),
-        };
-        let _ = writeln!(text, "- {}: {verdict}", aim.what);
-        for (figure, name) in figures.iter().take(misses.max(1)) {
-            let _ = writeln!(text, "  - {figure:.2} {name}");
-        }
-    }
-    text
+    AIMS.iter().map(|aim| aim.report(measured)).collect()
 }

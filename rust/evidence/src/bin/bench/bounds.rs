@@ -1,126 +1,57 @@
-//! What bounds cost: the rows with leasts and mosts against the same rows without, over all capacities, and how the
-//! families with bounds grow.
+//! What bounds cost: the families with leasts and mosts against the same without, summed over all capacities. The
+//! nested bounds are in no sum.
 
-use crate::aims::GROWTH;
 use crate::contenders::{Call, CALLS};
-use crate::instructions::{Counts, COUNTED};
-use crate::measured::Measured;
-use crate::rows::{rows, Row};
+use crate::measured::{Measured, Unit, UNITS};
+use crate::rows::{Kind, Row};
+use crate::words::verdict;
 use evidence::families::FRAMES;
-use std::fmt::Write;
 
 /// The aim for all families together, and the ratio above which a family is named.
 const TOGETHER: f64 = 1.5;
 const ALONE: f64 = 2.5;
 
-/// What bounded rows take, and what the same rows take without bounds.
-#[derive(Default)]
-struct Sums {
-    with: f64,
-    without: f64,
+/// The rows with bounds that are chosen, against the same rows without.
+fn cost(measured: &Measured, unit: Unit, call: Call, is_chosen: impl Fn(&Row) -> bool) -> Option<f64> {
+    let sum = |bounded| {
+        let rows = measured.rows(|row| row.is_summed() && row.bounded == bounded && is_chosen(row));
+        measured.library(unit, call, &rows)
+    };
+    Some(sum(true)? / sum(false)?)
 }
 
-impl Sums {
-    fn add(&mut self, with: f64, without: f64) {
-        self.with += with;
-        self.without += without;
+/// What bounds cost at a number of frames, with the families that are named; what they cost in cold times has no aim.
+fn at(measured: &Measured, unit: Unit, call: Call, frames: usize) -> Option<String> {
+    let all = cost(measured, unit, call, |row| row.frames == frames)?;
+    if unit == Unit::Cold {
+        return Some(format!("{all:.2}"));
     }
-
-    fn ratio(&self) -> f64 {
-        self.with / self.without
-    }
-}
-
-/// The sums of all families at a number of frames, and of each by its name; nothing where a row has no figure.
-fn sums(frames: usize, figure: impl Fn(&Row) -> Option<f64>) -> Option<(Sums, Vec<(String, Sums)>)> {
-    let mut all = Sums::default();
-    let mut families: Vec<(String, Sums)> = Vec::new();
-    for row in rows(&[frames]).into_iter().filter(|row| row.bounded) {
-        let (with, without) = (figure(&row)?, figure(&row.unbounded())?);
-        all.add(with, without);
-        let name = row.unbounded().kind();
-        if families.last().map_or(true, |(last, _)| *last != name) {
-            families.push((name, Sums::default()));
-        }
-        families.last_mut()?.1.add(with, without);
-    }
-    Some((all, families))
-}
-
-/// A line for a call and a number of frames, and one for each family that is named, the worst first.
-fn lines(what: &str, call: Call, frames: usize, figure: impl Fn(&Row) -> Option<f64>) -> String {
-    let mut text = String::new();
-    if let Some((all, mut families)) = sums(frames, figure) {
-        let ratio = all.ratio();
-        let verdict = if ratio <= TOGETHER { "met" } else { "missed" };
-        let _ = writeln!(
-            text,
-            "- {}, {frames} frames, in {what}: {ratio:.2}: {verdict}",
-            call.name()
-        );
-        families.retain(|(_, sums)| ALONE < sums.ratio());
-        families.sort_by(|a, b| b.1.ratio().total_cmp(&a.1.ratio()));
-        for (name, sums) in families {
-            let _ = writeln!(text, "  - {:.2} {name}", sums.ratio());
+    let mut text = format!("{all:.2} {}", verdict(all <= TOGETHER));
+    for kind in Kind::all() {
+        let alone = cost(measured, unit, call, |row| (row.kind, row.frames) == (kind, frames));
+        if let Some(alone) = alone.filter(|alone| ALONE < *alone) {
+            text += &format!(" ({} {alone:.2})", kind.name());
         }
     }
-    text
+    Some(text)
 }
 
-/// How each family with bounds grows from half a week to a week, over all capacities, the worst first.
-fn growths(call: Call, counts: &Counts) -> Option<Vec<(f64, String)>> {
-    let families = |frames| Some(sums(frames, |row| counts.count(call, row))?.1);
-    let (half_week, week) = (families(COUNTED[0])?, families(COUNTED[1])?);
-    let grown = half_week.into_iter().zip(week);
-    let mut growths: Vec<(f64, String)> = grown.map(|((name, a), (_, b))| (b.with / a.with, name)).collect();
-    growths.sort_by(|a, b| b.0.total_cmp(&a.0));
-    Some(growths)
+/// What bounds cost in one unit at every number of frames.
+fn part(measured: &Measured, unit: Unit, call: Call) -> Option<String> {
+    let costs: Option<Vec<String>> = FRAMES.iter().map(|&frames| at(measured, unit, call, frames)).collect();
+    Some(format!("{} {}", unit.name(), costs?.join(", ")))
 }
 
-/// A line for a call: the worst growth of a family with bounds, and one for each other family that grows too much.
-fn growth_lines(call: Call, counts: &Counts) -> String {
-    let mut text = String::new();
-    for (i, (growth, name)) in growths(call, counts).unwrap_or_default().iter().enumerate() {
-        let verdict = if *growth <= GROWTH { "met" } else { "missed" };
-        if i == 0 {
-            let _ = writeln!(
-                text,
-                "- {}, growth with bounds in instructions: {verdict}; the worst: {growth:.2} {name}",
-                call.name()
-            );
-        } else if GROWTH < *growth {
-            let _ = writeln!(text, "  - {growth:.2} {name}");
-        }
-    }
-    text
-}
-
-/// The head of the section.
-fn head() -> String {
-    format!(
-        "\n## Bounds\n\nWith leasts and mosts at most {TOGETHER} of without; families above {ALONE} are named. Each family grows\nfrom half a week to a week by at most {GROWTH}.\n\n"
-    )
-}
-
-/// The ratios in counted instructions.
-pub fn counted(counts: &Counts) -> String {
-    let mut text = head();
-    for call in CALLS {
-        for frames in COUNTED {
-            text += &lines("instructions", call, frames, |row| counts.count(call, row));
-        }
-        text += &growth_lines(call, counts);
-    }
-    text
-}
-
-/// The ratios in counted instructions, where they were counted, and in times.
+/// The section: a line for each call.
 pub fn report(measured: &Measured) -> String {
-    let mut text = measured.counts.as_ref().map_or_else(head, counted);
+    let [day, half_week, week] = FRAMES;
+    let mut text = format!(
+        "\n## Bounds\n\nWith leasts and mosts at most {TOGETHER} of without, summed over the families at {day}, \
+         {half_week} and {week} frames;\nfamilies above {ALONE} are named. The nested bounds are not in these sums.\n\n"
+    );
     for call in CALLS {
-        for frames in FRAMES {
-            text += &lines("microseconds", call, frames, |row| measured.micros(call, row));
-        }
+        let parts: Vec<String> = UNITS.iter().filter_map(|&unit| part(measured, unit, call)).collect();
+        text += &format!("- {}: {}\n", call.name(), parts.join("; "));
     }
     text
 }

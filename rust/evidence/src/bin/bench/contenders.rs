@@ -1,7 +1,8 @@
-//! The implementations that answer the same requests: the library, its twin in Rust, the source's algorithms, another build.
+//! The implementations that answer the same requests: the library, another build, its twin in Rust, the source's
+//! algorithms.
 
 use crate::beside::Beside;
-use crate::rows::Request;
+use crate::rows::{Request, Row};
 use crate::time::black_box;
 use energy::{Energy, Figures, Frames, Linked};
 use evidence::algorithms::source;
@@ -27,6 +28,14 @@ impl Call {
         }
     }
 
+    /// Its name as a heading.
+    pub fn title(self) -> &'static str {
+        match self {
+            Call::Plan => "Plan",
+            Call::Needed => "Needed capacity",
+        }
+    }
+
     /// Its function in C.
     pub fn function(self) -> &'static str {
         match self {
@@ -39,6 +48,44 @@ impl Call {
     pub fn of_name(name: &str) -> Result<Call, String> {
         let found = CALLS.into_iter().find(|call| call.function() == name);
         found.ok_or_else(|| format!("no call {name}"))
+    }
+}
+
+/// Who answers the requests.
+#[derive(Clone, Copy, PartialEq)]
+pub enum Contender {
+    /// The linked library.
+    Library,
+    /// Another build of it.
+    Beside,
+    /// The same algorithm in Rust.
+    Twin,
+    /// The source's Algorithm 2, and its needed capacity by Algorithm 1.
+    Source,
+}
+
+/// All of them, in the order of the tables.
+pub const CONTENDERS: [Contender; 4] = [
+    Contender::Library,
+    Contender::Beside,
+    Contender::Twin,
+    Contender::Source,
+];
+
+impl Contender {
+    /// Whether it answers a row's requests: the source's algorithms know of no bounds.
+    pub fn answers(self, row: &Row) -> bool {
+        self != Contender::Source || !row.bounded
+    }
+
+    /// How it makes a call, if it takes part.
+    pub fn run(self, call: Call, beside: Option<&Beside>) -> Option<Run> {
+        match self {
+            Contender::Library => Some(by(Linked, call)),
+            Contender::Beside => beside.map(|beside| other(beside, call)),
+            Contender::Twin => Some(by(Fast, call)),
+            Contender::Source => Some(source(call)),
+        }
     }
 }
 
@@ -75,18 +122,8 @@ fn by(energy: impl Energy + 'static, call: Call) -> Run {
     }
 }
 
-/// The linked library.
-pub fn library(call: Call) -> Run {
-    by(Linked, call)
-}
-
-/// The same algorithm in Rust.
-pub fn twin(call: Call) -> Run {
-    by(Fast, call)
-}
-
-/// Another build of the library.
-pub fn other(beside: &Beside, call: Call) -> Run {
+/// The call by another build of the library.
+fn other(beside: &Beside, call: Call) -> Run {
     let beside = beside.clone();
     match call {
         Call::Plan => plans(move |figures, frames, budgets| beside.plan(figures, frames, budgets)),
@@ -94,8 +131,8 @@ pub fn other(beside: &Beside, call: Call) -> Run {
     }
 }
 
-/// The source's Algorithm 2, and its needed capacity by Algorithm 1; they know of no bounds.
-pub fn source(call: Call) -> Run {
+/// The call by the source's algorithms.
+fn source(call: Call) -> Run {
     let mut budgets = vec![0.0; MAX_FRAMES];
     Box::new(move |request| {
         let Figures { capacity, start, end } = black_box(request.figures);

@@ -1,16 +1,12 @@
 //! Instructions of the library's calls, counted by callgrind: this program runs itself under it.
 
 use crate::beside::Beside;
-use crate::contenders::{library, other, Call, CALLS};
-use crate::rows::{rows, Row, COUNTED as REQUESTS};
-use evidence::families::FRAMES;
-use std::fmt::Write;
+use crate::contenders::{Call, Contender, CALLS};
+use crate::measured::{Column, Unit};
+use crate::rows::{rows, COUNTED};
 use std::process::{Command, Stdio};
 
-/// The numbers of frames that are counted, half a week and a week: the growth is from the first to the second.
-pub const COUNTED: [usize; 2] = [FRAMES[1], FRAMES[2]];
-
-/// Has the C library clear a list by stores, not by one repeated instruction, which callgrind counts once for each byte.
+/// Has the C library clear a list by stores, not by one repeated instruction that callgrind counts once for each byte.
 const LISTS_BY_WORDS: &str = "glibc.cpu.x86_rep_stosb_threshold=1000000";
 
 /// The argument of the run under callgrind.
@@ -18,12 +14,10 @@ pub const PLAY: &str = "--play";
 
 /// Makes every counted call once, in the order of the rows.
 pub fn play(call: Call, beside: Option<&Beside>) {
-    let mut run = match beside {
-        Some(beside) => other(beside, call),
-        None => library(call),
-    };
-    for row in rows(&COUNTED) {
-        row.requests(REQUESTS).iter().for_each(|request| run(request));
+    let build = beside.map_or(Contender::Library, |_| Contender::Beside);
+    let mut run = build.run(call, beside).expect("a build of the library");
+    for row in rows() {
+        row.requests(COUNTED).iter().for_each(|request| run(request));
     }
 }
 
@@ -62,85 +56,31 @@ fn each(call: Call, beside: Option<&Beside>) -> Result<Vec<u64>, String> {
 }
 
 /// The counts of the rows: the mean over their requests.
-fn means(call: Call, beside: Option<&Beside>) -> Result<Vec<u64>, String> {
+fn means(call: Call, beside: Option<&Beside>) -> Result<Vec<Option<f64>>, String> {
     let each = each(call, beside)?;
-    let mut rest = each.iter().copied();
-    let mut mean = |row: &Row| {
-        let count = row.requests(REQUESTS).len();
-        rest.by_ref().take(count).sum::<u64>() / count as u64
-    };
-    let means = rows(&COUNTED).iter().map(&mut mean).collect();
-    let expected: usize = rows(&COUNTED).iter().map(|row| row.requests(REQUESTS).len()).sum();
+    let counts: Vec<usize> = rows().iter().map(|row| row.requests(COUNTED).len()).collect();
+    let expected: usize = counts.iter().sum();
     if each.len() != expected {
         return Err(format!("callgrind counted {} calls, not {expected}", each.len()));
     }
-    Ok(means)
+    let mut rest = each.into_iter();
+    let mean = |count: usize| rest.by_ref().take(count).sum::<u64>() as f64 / count as f64;
+    Ok(counts.into_iter().map(mean).map(Some).collect())
 }
 
-/// The counted instructions of all rows, for each call, by the library and by the other build.
-pub struct Counts {
-    rows: Vec<Row>,
-    library: Vec<Vec<u64>>,
-    beside: Option<Vec<Vec<u64>>>,
-}
-
-/// Counts every row.
-pub fn count(beside: Option<&Beside>) -> Result<Counts, String> {
-    let all = |beside| -> Result<Vec<Vec<u64>>, String> { CALLS.iter().map(|&call| means(call, beside)).collect() };
-    Ok(Counts {
-        rows: rows(&COUNTED),
-        library: all(None)?,
-        beside: beside.map(|beside| all(Some(beside))).transpose()?,
-    })
-}
-
-/// How a row's counts of half a week and a week grow.
-fn growth(pair: &[u64]) -> f64 {
-    pair[1] as f64 / pair[0] as f64
-}
-
-impl Counts {
-    /// The growth to a row, if it has the larger number of frames.
-    pub fn growth(&self, call: Call, row: &Row) -> Option<f64> {
-        let at = self.rows.iter().position(|other| other == row)?;
-        (row.frames == COUNTED[1]).then(|| growth(&self.library[call as usize][at - 1..=at]))
-    }
-
-    /// The count of a row's call, if it was counted.
-    pub fn count(&self, call: Call, row: &Row) -> Option<f64> {
-        let at = self.rows.iter().position(|other| other == row)?;
-        Some(self.library[call as usize][at] as f64)
-    }
-
-    /// Every count.
-    pub fn table(&self, beside: Option<&Beside>) -> String {
-        let mut text = String::new();
-        for call in CALLS {
-            let _ = writeln!(text, "## Instructions, {}\n\n{}", call.name(), header(beside));
-            for (i, row) in self.rows.iter().enumerate().step_by(2) {
-                let part = |counts: &[Vec<u64>]| cells(&counts[call as usize][i..i + 2]);
-                let beside = self.beside.as_deref().map_or(String::new(), part);
-                let _ = writeln!(text, "| {} |{}{beside}", row.name(), part(&self.library));
-            }
-            text.push('\n');
+/// The columns of the library, and of the other build where there is one.
+pub fn count(beside: Option<&Beside>) -> Result<Vec<Column>, String> {
+    let other = beside.map(|beside| (Contender::Beside, Some(beside)));
+    let mut columns = Vec::new();
+    for call in CALLS {
+        for (contender, build) in [(Contender::Library, None)].into_iter().chain(other) {
+            columns.push(Column {
+                unit: Unit::Instructions,
+                call,
+                contender,
+                figures: means(call, build)?,
+            });
         }
-        text
     }
-}
-
-/// The counts of two rows and their growth as cells of a table.
-fn cells(pair: &[u64]) -> String {
-    format!(" {} | {} | {:.2} |", pair[0], pair[1], growth(pair))
-}
-
-/// The head of the table of counts.
-fn header(beside: Option<&Beside>) -> String {
-    let columns = |name: &str| format!(" {name}{} | {name}{} | {name}growth |", COUNTED[0], COUNTED[1]);
-    let beside = beside.map(|beside| columns(&format!("{} ", beside.name())));
-    let numbers = "---|".repeat(if beside.is_some() { 8 } else { 5 });
-    format!(
-        "| harvest | capacity |{}{}\n|{numbers}",
-        columns(""),
-        beside.unwrap_or_default()
-    )
+    Ok(columns)
 }

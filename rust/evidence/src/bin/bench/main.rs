@@ -1,26 +1,34 @@
 //! Benchmarks: `rust/cargo run --release --bin bench -- --help` says what can be asked for.
 
+mod against;
 mod aims;
 mod beside;
 mod bounds;
+mod chill;
+mod cold;
 mod contenders;
+mod growth;
 mod guess;
 mod instructions;
 mod measured;
 mod rest;
 mod rows;
+mod search;
 mod table;
 mod time;
+mod warm;
+mod words;
 
 use beside::Beside;
-use contenders::Call;
+use contenders::{Call, CALLS};
 use evidence::random::seed;
-use measured::Measured;
-use std::path::PathBuf;
+use measured::{Column, Measured};
+use search::Searched;
+use std::path::{Path, PathBuf};
 
 const HELP: &str = "\
 bench [--beside FILE.so] [--table FILE]     times, counted instructions, the aims, files, shifts, the linear program
-bench --instructions [--beside FILE.so]     counted instructions alone
+bench --instructions [--beside FILE.so]     counted instructions alone, with the aims for them
 
 --beside FILE.so   another build of the library in the same run; its columns have the file's name. It is made by
                    cc -shared -o FILE.so -Wl,--whole-archive libenergy.a -Wl,--no-whole-archive
@@ -77,28 +85,72 @@ fn heading() -> String {
     format!("largest harvest {most}; seed {seed}; machine: {machine}; load {load}")
 }
 
-/// Everything, with the whole table in a file if one is named.
-fn run(asked: &Asked) -> Result<(), String> {
-    let beside = asked.beside.as_ref();
-    let counts = instructions::count(beside);
-    if asked.instructions {
-        let counts = counts?;
-        print!("{}{}", counts.table(beside), bounds::counted(&counts));
-        return Ok(());
-    }
-    let counts = match counts {
-        Ok(counts) => Some(counts),
-        Err(reason) => {
-            println!("{reason}");
-            None
-        }
+/// The columns of all times.
+fn times(beside: Option<&Beside>) -> Vec<Column> {
+    let requests = time::requests();
+    let of_call = |call| {
+        let mut columns = warm::measure(call, &requests, beside);
+        columns.extend(cold::measure(call, &requests, beside));
+        columns
     };
-    let measured = Measured::take(beside, counts);
+    CALLS.into_iter().flat_map(of_call).collect()
+}
+
+/// What some columns tell.
+fn measured(columns: Vec<Column>, beside: Option<&Beside>) -> Measured {
+    Measured {
+        rows: rows::rows(),
+        columns,
+        beside: beside.map(Beside::name),
+    }
+}
+
+/// The sums over the families, and how they grow.
+fn sums(measured: &Measured) -> String {
+    let (against, growth) = (against::report(measured), growth::report(measured));
+    format!("\n## Aims\n\n{against}{growth}")
+}
+
+/// Counted instructions alone.
+fn run_instructions(beside: Option<&Beside>) -> Result<(), String> {
+    let measured = measured(instructions::count(beside)?, beside);
+    print!(
+        "{}{}{}",
+        table::whole(&measured, None),
+        sums(&measured),
+        bounds::report(&measured)
+    );
+    Ok(())
+}
+
+/// Everything, with the whole table in a file if one is named.
+fn run_all(beside: Option<&Beside>, table: Option<&Path>) -> Result<(), String> {
+    let mut columns = instructions::count(beside).unwrap_or_else(|reason| {
+        println!("{reason}");
+        Vec::new()
+    });
+    columns.extend(times(beside));
+    let measured = measured(columns, beside);
+    let searched = Searched::measure(&measured.rows);
     println!("{}\n", heading());
-    print!("{}", measured.summary());
-    print!("{}{}", aims::report(&measured), bounds::report(&measured));
-    if let Some(path) = &asked.table {
-        let text = format!("{TITLE}\n\n{}\n\n{}", heading(), measured.whole());
+    print!(
+        "{}{}{}",
+        table::families(&measured),
+        sums(&measured),
+        aims::report(&measured)
+    );
+    print!(
+        "{}{}{}",
+        bounds::report(&measured),
+        chill::report(&measured),
+        searched.report()
+    );
+    if let Some(path) = table {
+        let text = format!(
+            "{TITLE}\n\n{}\n\n{}",
+            heading(),
+            table::whole(&measured, Some(&searched))
+        );
         std::fs::write(path, text).map_err(|error| format!("{}: {error}", path.display()))?;
     }
     rest::measure();
@@ -107,11 +159,13 @@ fn run(asked: &Asked) -> Result<(), String> {
 
 /// Does what is asked for.
 fn answer(asked: &Asked) -> Result<(), String> {
-    if let Some(call) = asked.played {
-        instructions::play(call, asked.beside.as_ref());
-        return Ok(());
+    let beside = asked.beside.as_ref();
+    match asked.played {
+        Some(call) => instructions::play(call, beside),
+        None if asked.instructions => run_instructions(beside)?,
+        None => run_all(beside, asked.table.as_deref())?,
     }
-    run(asked)
+    Ok(())
 }
 
 fn main() {

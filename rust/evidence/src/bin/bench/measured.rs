@@ -1,98 +1,99 @@
-//! What a run measured: for each row and call the library's time, and its ratios to the other implementations.
+//! What a run measured: columns of figures, and what sums of them come to.
 
-use crate::beside::Beside;
-use crate::contenders::{library, other, source, twin, Call, Run, CALLS};
-use crate::instructions::Counts;
-use crate::rows::{rows, Request, Row, TIMED};
-use crate::time::{lower, ROUNDS};
+use crate::contenders::{Call, Contender};
+use crate::rows::Row;
 use evidence::families::FRAMES;
 
-/// What was measured of a call in a row.
-pub struct Measure {
-    pub micros: f64,
-    pub twin: f64,
-    /// The source's algorithms know of no bounds.
-    pub source: Option<f64>,
-    pub beside: Option<f64>,
-    /// In counted instructions.
-    pub growth: Option<f64>,
+/// The numbers of frames from which growth is measured and to which it leads.
+pub const HALF_WEEK: usize = FRAMES[1];
+pub const WEEK: usize = FRAMES[2];
+
+/// What is measured of a call.
+#[derive(Clone, Copy, PartialEq)]
+pub enum Unit {
+    Instructions,
+    /// Microseconds where the request is called again and again.
+    Warm,
+    /// Microseconds where another request was called before.
+    Cold,
 }
 
-/// A row with what was measured of each call, in the order of `CALLS`.
-pub struct Line {
-    pub row: Row,
-    pub calls: [Measure; 2],
-}
+/// All of them, in the order of the tables, and those of time.
+pub const UNITS: [Unit; 3] = [Unit::Instructions, Unit::Warm, Unit::Cold];
+pub const TIMES: [Unit; 2] = [Unit::Warm, Unit::Cold];
 
-/// All rows, with the name of the build beside and the counts of instructions where they were asked for.
-pub struct Measured {
-    pub lines: Vec<Line>,
-    pub beside: Option<Beside>,
-    pub counts: Option<Counts>,
-}
-
-/// The implementations of a call, the library first.
-fn runs(call: Call, beside: Option<&Beside>) -> Vec<Run> {
-    let mut runs = vec![library(call), twin(call), source(call)];
-    runs.extend(beside.map(|beside| other(beside, call)));
-    runs
-}
-
-/// A request and its best times by each implementation.
-type Timed = (Request, Vec<f64>);
-
-/// The mean of a row's requests for each implementation.
-fn means(requests: &[Timed]) -> Vec<f64> {
-    let (_, first) = &requests[0];
-    let mean = |i| requests.iter().map(|(_, best)| best[i]).sum::<f64>() / requests.len() as f64;
-    (0..first.len()).map(mean).collect()
-}
-
-/// The times of a call in all rows by each implementation.
-fn times(call: Call, rows: &[Row], beside: Option<&Beside>) -> Vec<Vec<f64>> {
-    let mut runs = runs(call, beside);
-    let untimed = |request| (request, vec![f64::INFINITY; runs.len()]);
-    let requests = |row: &Row| -> Vec<Timed> { row.requests(TIMED).into_iter().map(untimed).collect() };
-    let mut all: Vec<Vec<Timed>> = rows.iter().map(requests).collect();
-    for _ in 0..ROUNDS {
-        for (request, best) in all.iter_mut().flatten() {
-            lower(best, request, &mut runs);
+impl Unit {
+    /// Its name in tables.
+    pub fn name(self) -> &'static str {
+        match self {
+            Unit::Instructions => "instructions",
+            Unit::Warm => "warm",
+            Unit::Cold => "cold",
         }
     }
-    all.iter().map(|requests| means(requests)).collect()
 }
 
-/// The library's time in a row, and its ratios to the others.
-fn measure(row: &Row, times: &[f64], growth: Option<f64>) -> Measure {
-    Measure {
-        micros: times[0],
-        twin: times[0] / times[1],
-        source: (!row.bounded).then(|| times[0] / times[2]),
-        beside: times.get(3).map(|time| times[0] / time),
-        growth,
-    }
+/// A figure for every row that a contender answers: the mean over the row's requests.
+pub struct Column {
+    pub unit: Unit,
+    pub call: Call,
+    pub contender: Contender,
+    pub figures: Vec<Option<f64>>,
+}
+
+/// The figures of all rows, and the name of the build beside.
+pub struct Measured {
+    pub rows: Vec<Row>,
+    pub columns: Vec<Column>,
+    pub beside: Option<String>,
 }
 
 impl Measured {
-    /// Measures every row.
-    pub fn take(beside: Option<&Beside>, counts: Option<Counts>) -> Measured {
-        let rows = rows(&FRAMES);
-        let times = CALLS.map(|call| times(call, &rows, beside));
-        let line = |(i, &row): (usize, &Row)| {
-            let growth = |call| counts.as_ref().and_then(|counts| counts.growth(call, &row));
-            let calls = CALLS.map(|call| measure(&row, &times[call as usize][i], growth(call)));
-            Line { row, calls }
-        };
-        Measured {
-            lines: rows.iter().enumerate().map(line).collect(),
-            beside: beside.cloned(),
-            counts,
+    /// The rows that are chosen.
+    pub fn rows(&self, is_chosen: impl Fn(&Row) -> bool) -> Vec<Row> {
+        self.rows.iter().copied().filter(is_chosen).collect()
+    }
+
+    /// A contender's sum over some rows, if there are any and each was measured.
+    pub fn sum(&self, unit: Unit, call: Call, contender: Contender, rows: &[Row]) -> Option<f64> {
+        rows.first()?;
+        let is_it = |column: &&Column| (column.unit, column.call, column.contender) == (unit, call, contender);
+        let column = self.columns.iter().find(is_it)?;
+        let figure = |row| column.figures[self.rows.iter().position(|other| other == row)?];
+        rows.iter().map(figure).sum()
+    }
+
+    /// The library's sum over some rows.
+    pub fn library(&self, unit: Unit, call: Call, rows: &[Row]) -> Option<f64> {
+        self.sum(unit, call, Contender::Library, rows)
+    }
+
+    /// The library's sum over some rows against another contender's.
+    pub fn ratio(&self, unit: Unit, call: Call, other: Contender, rows: &[Row]) -> Option<f64> {
+        Some(self.library(unit, call, rows)? / self.sum(unit, call, other, rows)?)
+    }
+
+    /// The name of a contender in tables.
+    pub fn name(&self, contender: Contender) -> String {
+        match contender {
+            Contender::Library => "library".to_string(),
+            Contender::Beside => self.beside.clone().unwrap_or_default(),
+            Contender::Twin => "twin".to_string(),
+            Contender::Source => "source".to_string(),
         }
     }
 
-    /// The time of a row's call, if it was measured.
-    pub fn micros(&self, call: Call, row: &Row) -> Option<f64> {
-        let line = self.lines.iter().find(|line| line.row == *row)?;
-        Some(line.calls[call as usize].micros)
+    /// How the library's instructions grow to some rows of a week from the same rows of half a week.
+    pub fn growth(&self, call: Call, rows: &[Row]) -> Option<f64> {
+        if rows.iter().any(|row| row.frames != WEEK) {
+            return None;
+        }
+        let half = |&row: &Row| Row {
+            frames: HALF_WEEK,
+            ..row
+        };
+        let halves: Vec<Row> = rows.iter().map(half).collect();
+        let instructions = |rows: &[Row]| self.library(Unit::Instructions, call, rows);
+        Some(instructions(rows)? / instructions(&halves)?)
     }
 }

@@ -1,7 +1,8 @@
 //! The rest of the run: files, a shift, and the linear program.
 
 use crate::rows::MOST;
-use crate::time::{alone, black_box};
+use crate::time::black_box;
+use crate::warm::alone;
 use energy::{Energy, Figures, Frames};
 use evidence::algorithms::linear;
 use evidence::families::{bounded, request, Family, Size, FRAMES};

@@ -1,62 +1,164 @@
-//! The tables: the summary of two numbers of frames, and all rows with their counted instructions.
+//! The tables: a line for each family, and all rows. A column in which nothing was measured is left out.
 
-use crate::contenders::{Call, CALLS};
+use crate::contenders::{Call, Contender, CALLS};
 use crate::guess::guess;
-use crate::measured::{Line, Measure, Measured};
-use evidence::families::FRAMES;
+use crate::measured::{Measured, Unit, WEEK};
+use crate::rows::{Kind, Row};
+use crate::search::Searched;
 
-/// The numbers of frames of the summary.
-const SUMMARY: [usize; 2] = [FRAMES[0], FRAMES[2]];
+/// What a column tells of some rows.
+#[derive(Clone, Copy)]
+enum Tells {
+    /// The library's mean.
+    Mean(Unit),
+    /// The library's sum against another contender's.
+    Ratio(Unit, Contender),
+    Growth,
+}
 
-/// A figure with two digits behind the point, a small one with three, or an empty cell.
-fn cell(figure: Option<f64>) -> String {
-    match figure {
-        Some(figure) if figure < 0.1 => format!(" {figure:.3} |"),
-        Some(figure) => format!(" {figure:.2} |"),
-        None => "  |".to_string(),
+use Contender::{Beside, Source, Twin};
+use Tells::{Growth, Mean, Ratio};
+use Unit::{Cold, Instructions, Warm};
+
+/// The columns of the table of families.
+const FAMILIES: [Tells; 7] = [
+    Mean(Warm),
+    Mean(Cold),
+    Ratio(Instructions, Beside),
+    Ratio(Warm, Source),
+    Ratio(Cold, Source),
+    Ratio(Warm, Twin),
+    Growth,
+];
+
+/// The columns of the table of all rows.
+const ROWS: [Tells; 11] = [
+    Mean(Instructions),
+    Ratio(Instructions, Beside),
+    Growth,
+    Mean(Warm),
+    Mean(Cold),
+    Ratio(Warm, Beside),
+    Ratio(Cold, Beside),
+    Ratio(Warm, Source),
+    Ratio(Cold, Source),
+    Ratio(Warm, Twin),
+    Ratio(Cold, Twin),
+];
+
+impl Tells {
+    /// The column's name.
+    fn head(self, measured: &Measured) -> String {
+        match self {
+            Mean(Instructions) => "instructions".to_string(),
+            Mean(unit) => format!("{} us", unit.name()),
+            Ratio(unit, other) => format!("{} / {}", unit.name(), measured.name(other)),
+            Growth => "growth".to_string(),
+        }
+    }
+
+    /// Its figure for a call in some rows.
+    fn figure(self, measured: &Measured, call: Call, rows: &[Row]) -> Option<f64> {
+        match self {
+            Mean(unit) => Some(measured.library(unit, call, rows)? / rows.len() as f64),
+            Ratio(unit, other) => measured.ratio(unit, call, other, rows),
+            Growth => measured.growth(call, rows),
+        }
+    }
+
+    /// Whether it was measured in any row.
+    fn is_measured(self, measured: &Measured, call: Call) -> bool {
+        measured
+            .rows
+            .iter()
+            .any(|&row| self.figure(measured, call, &[row]).is_some())
     }
 }
 
-impl Measured {
-    /// The head of a table: the columns of both calls, and what stands behind them.
-    fn head(&self, last: &str) -> String {
-        let beside = self.beside.as_ref().map(|beside| format!(" / {} |", beside.name()));
-        let beside = beside.unwrap_or_default();
-        let columns = |call: &Call| format!(" {} us | / twin | / source |{beside} growth |", call.name());
-        let columns: String = CALLS.iter().map(columns).collect();
-        let head = format!("| harvest | capacity | frames |{columns}{last}");
-        let rule = "---|".repeat(head.matches('|').count() - 1);
-        format!("{head}\n|{rule}\n")
-    }
+/// Those columns of a table that were measured.
+fn measured_ones(all: &[Tells], measured: &Measured, call: Call) -> Vec<Tells> {
+    let is_measured = |tells: &Tells| tells.is_measured(measured, call);
+    all.iter().copied().filter(is_measured).collect()
+}
 
-    /// The cells of a call.
-    fn cells(&self, measure: &Measure) -> String {
-        let figures = [Some(measure.micros), Some(measure.twin), measure.source];
-        let mut text: String = figures.iter().map(|&figure| cell(figure)).collect();
-        if self.beside.is_some() {
-            text.push_str(&cell(measure.beside));
-        }
-        text + &cell(measure.growth)
+/// A figure with three digits or more, empty without one.
+fn text(figure: Option<f64>) -> String {
+    match figure {
+        Some(figure) if figure < 0.1 => format!("{figure:.3}"),
+        Some(figure) if figure < 10.0 => format!("{figure:.2}"),
+        Some(figure) if figure < 100.0 => format!("{figure:.1}"),
+        Some(figure) => format!("{figure:.0}"),
+        None => String::new(),
     }
+}
 
-    /// A line of a table.
-    fn line(&self, line: &Line) -> String {
-        let cells: String = line.calls.iter().map(|measure| self.cells(measure)).collect();
-        format!("| {} | {} |{cells}", line.row.name(), line.row.frames)
-    }
+/// A line of a table.
+fn line(cells: impl IntoIterator<Item = String>) -> String {
+    let cells: String = cells.into_iter().map(|cell| format!(" {cell} |")).collect();
+    format!("|{cells}\n")
+}
 
-    /// The summary: a day and a week of quarter hours.
-    pub fn summary(&self) -> String {
-        let lines = self.lines.iter().filter(|line| SUMMARY.contains(&line.row.frames));
-        let lines: String = lines.map(|line| self.line(line) + "\n").collect();
-        self.head("") + &lines
-    }
+/// The first lines of a table.
+fn head(names: impl IntoIterator<Item = String>) -> String {
+    let names: Vec<String> = names.into_iter().collect();
+    let rule = "---|".repeat(names.len());
+    format!("{}|{rule}\n", line(names))
+}
 
-    /// All rows with the guesses that were certified, and the counted instructions.
-    pub fn whole(&self) -> String {
-        let guessed = |line: &Line| format!("{} {} |\n", self.line(line), guess(&line.row));
-        let lines: String = self.lines.iter().map(guessed).collect();
-        let counts = self.counts.as_ref().map(|counts| counts.table(self.beside.as_ref()));
-        format!("{}{lines}\n{}", self.head(" guess |"), counts.unwrap_or_default())
-    }
+/// A figure of a family at a week without bounds and one with them, as far as there are such.
+fn pair(tells: Tells, measured: &Measured, call: Call, kind: Kind) -> String {
+    let figure = |bounded| {
+        let rows = measured.rows(|row| (row.kind, row.bounded, row.frames) == (kind, bounded, WEEK));
+        tells.figure(measured, call, &rows)
+    };
+    let figures = [false, true].into_iter().filter_map(figure);
+    let texts: Vec<String> = figures.map(|figure| text(Some(figure))).collect();
+    texts.join(", ")
+}
+
+/// The table of families: plan and needed capacity of a week over all capacities, without bounds and with them.
+pub fn families(measured: &Measured) -> String {
+    let of_call = |call| {
+        measured_ones(&FAMILIES, measured, call)
+            .into_iter()
+            .map(move |tells| (call, tells))
+    };
+    let columns: Vec<(Call, Tells)> = CALLS.into_iter().flat_map(of_call).collect();
+    let names = columns
+        .iter()
+        .map(|(call, tells)| format!("{} {}", call.name(), tells.head(measured)));
+    let of_kind = |kind: Kind| {
+        let cells = columns.iter().map(|&(call, tells)| pair(tells, measured, call, kind));
+        line([kind.name()].into_iter().chain(cells))
+    };
+    let lines: String = Kind::all().into_iter().map(of_kind).collect();
+    head(["harvest".to_string()].into_iter().chain(names)) + &lines
+}
+
+/// A column that is not a figure of the library: its name, and its cell in a row.
+type More<'a> = (&'a str, &'a dyn Fn(&Row) -> String);
+
+/// The table of a call in all rows.
+fn of_call(call: Call, measured: &Measured, more: &[More]) -> String {
+    let columns = measured_ones(&ROWS, measured, call);
+    let names = ["harvest", "capacity", "frames"].map(String::from).into_iter();
+    let names = names.chain(columns.iter().map(|tells| tells.head(measured)));
+    let names = names.chain(more.iter().map(|(name, _)| name.to_string()));
+    let of_row = |row: &Row| {
+        let first = [row.family(), row.size.name().to_string(), row.frames.to_string()];
+        let figures = columns.iter().map(|tells| text(tells.figure(measured, call, &[*row])));
+        let last = more.iter().map(|(_, cell)| cell(row));
+        line(first.into_iter().chain(figures).chain(last))
+    };
+    let lines: String = measured.rows.iter().map(of_row).collect();
+    format!("## {}\n\n{}{lines}", call.title(), head(names))
+}
+
+/// All rows; where the search was measured, its times stand behind the guesses that were certified.
+pub fn whole(measured: &Measured, searched: Option<&Searched>) -> String {
+    let micros = |row: &Row| text(searched.and_then(|searched| searched.micros(row)));
+    let more: [More; 2] = [("guess", &guess), ("searched us", &micros)];
+    let more = if searched.is_some() { &more[..] } else { &[] };
+    let plan = of_call(Call::Plan, measured, more);
+    format!("{plan}\n{}", of_call(Call::Needed, measured, &[]))
 }

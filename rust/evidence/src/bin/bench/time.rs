@@ -1,15 +1,9 @@
-//! Times: the best of several rounds. Each goes through all rows, in each row through its requests, and for each of them
-//! through the implementations, so that what disturbs the machine for a while disturbs all of them, and no row in every
-//! round. A request is called many times in a row before the next one, whether its row has one or several: a processor
-//! learns the branches of each.
+//! What is timed: every request of every row, by every contender. How is told in `warm` and `cold`.
 
-use crate::contenders::Run;
-use crate::rows::Request;
-use std::time::{Duration, Instant};
-
-/// How often and how long a call is measured.
-pub const ROUNDS: usize = 30;
-const ROUND: Duration = Duration::from_micros(500);
+use crate::beside::Beside;
+use crate::contenders::{Call, Contender, Run, CONTENDERS};
+use crate::measured::{Column, Unit};
+use crate::rows::{rows, Request, Row, TIMED};
 
 /// Keeps a value from being computed beforehand or left out.
 pub fn black_box<T>(value: T) -> T {
@@ -21,25 +15,49 @@ pub fn black_box<T>(value: T) -> T {
     }
 }
 
-/// Microseconds of a call: the mean of those of a round.
-fn round(mut call: impl FnMut()) -> f64 {
-    let begin = Instant::now();
-    let mut done = 0;
-    while done == 0 || begin.elapsed() < ROUND {
-        call();
-        done += 1;
-    }
-    begin.elapsed().as_secs_f64() * 1e6 / f64::from(done)
+/// A request with its row.
+pub type OfRow = (Row, Request);
+
+/// The timed requests of all rows.
+pub fn requests() -> Vec<OfRow> {
+    let of_row = |row: Row| row.requests(TIMED).into_iter().map(move |request| (row, request));
+    rows().into_iter().flat_map(of_row).collect()
 }
 
-/// Lowers the best times of a request by one round of each implementation.
-pub fn lower(best: &mut [f64], request: &Request, runs: &mut [Run]) {
-    for (best, run) in best.iter_mut().zip(runs) {
-        *best = best.min(round(|| run(request)));
-    }
+/// A contender that makes a call, and all its times of each request.
+pub struct Timed {
+    pub contender: Contender,
+    pub run: Run,
+    pub times: Vec<Vec<f64>>,
 }
 
-/// Microseconds of one call by itself: more rounds, as they follow one another.
-pub fn alone(mut call: impl FnMut()) -> f64 {
-    (0..10 * ROUNDS).map(|_| round(&mut call)).fold(f64::INFINITY, f64::min)
+/// The contenders that take part, with nothing timed of so many requests.
+pub fn untimed(call: Call, beside: Option<&Beside>, requests: usize) -> Vec<Timed> {
+    let untimed = |contender: Contender| {
+        let run = contender.run(call, beside)?;
+        let times = vec![Vec::new(); requests];
+        Some(Timed { contender, run, times })
+    };
+    CONTENDERS.into_iter().filter_map(untimed).collect()
+}
+
+/// The columns of all contenders: in each row the mean over its requests of what is chosen of a request's times.
+pub fn columns(unit: Unit, call: Call, requests: &[OfRow], all: &[Timed], chosen: fn(&[f64]) -> f64) -> Vec<Column> {
+    let column = |timed: &Timed| Column {
+        unit,
+        call,
+        contender: timed.contender,
+        figures: rows().iter().map(|row| mean(row, requests, timed, chosen)).collect(),
+    };
+    all.iter().map(column).collect()
+}
+
+/// The mean over a row's requests, if the contender answers them.
+fn mean(row: &Row, requests: &[OfRow], timed: &Timed, chosen: fn(&[f64]) -> f64) -> Option<f64> {
+    if !timed.contender.answers(row) {
+        return None;
+    }
+    let of_row = requests.iter().zip(&timed.times).filter(|((other, _), _)| other == row);
+    let times: Vec<f64> = of_row.map(|(_, times)| chosen(times)).collect();
+    Some(times.iter().sum::<f64>() / times.len() as f64)
 }
