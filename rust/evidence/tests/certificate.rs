@@ -1,15 +1,14 @@
 //! Guess, certify, follow: its budgets against the definition of the plan, and the curve by itself.
 
-use energy::{Figures, Frames as Lent};
+use energy::Figures;
 use evidence::algorithms::certificate::frame::{Bounded, Frame, Frames, Listed, Plain};
 use evidence::algorithms::certificate::search::search;
-use evidence::algorithms::certificate::{by_curve, needed, plan_frames, Counters, Scratch};
+use evidence::algorithms::certificate::{by_curve, plan_frames, Counters, Scratch};
 use evidence::bounds::{around, Kind, KINDS};
 use evidence::families::{full, request, Family, FAMILIES, FRAMES, SIZES};
 use evidence::random::{seed, Random};
-use evidence::reference::charge::Store;
 use evidence::reference::limits::MAX_FRAMES;
-use evidence::reference::needed::needed as defined_needed;
+use std::collections::BTreeMap;
 use std::fmt::Debug;
 
 /// Numbers that stand for no upper end.
@@ -213,11 +212,6 @@ impl General {
         let terms = Terms::any(most, random);
         General::new(capacity, start, end, &harvest, terms, random).within_reach(random)
     }
-
-    /// Whether some frame has what is asked.
-    fn has(&self, what: fn(&Frame) -> bool) -> bool {
-        self.request.frames.iter().any(what)
-    }
 }
 
 /// Random figures for harvests: any capacity, start and end within reach.
@@ -314,12 +308,8 @@ fn small_requests_of_document_01_against_the_definition() {
         let harvest = random.list(frames, most);
         let plain = plain(most, &harvest, &mut random);
         let frames = (0..frames).map(|i| plain.at(i)).collect();
-        let Plain {
-            capacity, start, end, ..
-        } = plain;
+        let Plain { start, end, .. } = plain;
         assert_eq!(seen.plan(&plain), defined(&Listed { start, end, frames }), "{plain:?}");
-        let least = defined_needed(Store { capacity, start, end }, Lent::unbounded(&harvest));
-        assert_eq!(needed(start, end, &harvest), least, "{plain:?}");
     }
     seen.close("small requests of document 01");
 }
@@ -413,6 +403,29 @@ fn nested_bounds_lose_no_knot() {
     seen.close("nested bounds");
 }
 
+/// A small harvest and a large one in turn, in a store that the large one nearly fills: behind every other frame the curve
+/// jumps from 0 to the full store, and both its ends are to be kept.
+#[test]
+fn jumps_lose_no_knot() {
+    let mut seen = Seen::default();
+    let pair = [(3, 13, 28), (76, 9, 11)];
+    for count in [2, 4, 8].into_iter().chain(FRAMES) {
+        let frames = pair.iter().cycle().take(count).map(|&(inflow, least, most)| Frame {
+            inflow,
+            ceiling: 77,
+            drain: 0,
+            least,
+            most,
+        });
+        seen.plan(&Listed {
+            start: 54,
+            end: 66,
+            frames: frames.collect(),
+        });
+    }
+    seen.close("jumps");
+}
+
 /// How many frames one of the million requests has: mostly few, now and then as many as a day or more.
 fn mixed_count(random: &mut Random) -> usize {
     let frames = match random.up_to(99) {
@@ -424,36 +437,35 @@ fn mixed_count(random: &mut Random) -> usize {
     frames as usize
 }
 
-/// What there is among the million requests, and at least how often.
-const AMONG_THE_MILLION: [(&str, u64, fn(&General) -> bool); 12] = [
-    ("harvests on top of the capacity", 300_000, |g| {
-        g.terms.ceiling == Ceiling::OnTop
-    }),
-    ("harvests within the capacity", 300_000, |g| {
-        g.terms.ceiling == Ceiling::Within
-    }),
-    ("no upper end of the charge", 300_000, |g| {
-        g.terms.ceiling == Ceiling::Unlimited
-    }),
-    ("loads", 200_000, |g| g.has(|f| 0 < f.drain)),
-    ("leasts", 200_000, |g| g.has(|f| 0 < f.least)),
-    ("mosts", 200_000, |g| g.has(|f| f.most < UNBOUNDED)),
-    ("frames with both", 100_000, |g| {
-        g.has(|f| 0 < f.least && f.most < UNBOUNDED)
-    }),
-    ("close bounds", 100_000, |g| g.terms.shape == Shape::Close),
-    ("nested bounds", 100_000, |g| g.terms.shape == Shape::Nested),
-    ("no capacity", 100_000, |g| g.capacity == 0),
-    ("full stores", 20_000, |g| {
-        0 < g.capacity && g.request.start == g.capacity && g.request.end == g.capacity
-    }),
-    ("a day or more", 30_000, |g| 96 <= g.request.frames.len()),
-];
+/// What one of the million requests may be, how many of them are at least, and whether this one is.
+fn kinds(general: &General) -> [(&'static str, u64, bool); 11] {
+    let General {
+        capacity,
+        terms: Terms { ceiling, shape, .. },
+        ref request,
+    } = *general;
+    let has = |what: fn(&Frame) -> bool| request.frames.iter().any(what);
+    let has_both = has(|f| 0 < f.least && f.most < UNBOUNDED);
+    let is_full = request.start == capacity && request.end == capacity;
+    [
+        ("on top of the capacity", 300_000, ceiling == Ceiling::OnTop),
+        ("within the capacity", 300_000, ceiling == Ceiling::Within),
+        ("unlimited", 300_000, ceiling == Ceiling::Unlimited),
+        ("with loads", 200_000, has(|f| 0 < f.drain)),
+        ("with leasts", 200_000, has(|f| 0 < f.least)),
+        ("with mosts", 200_000, has(|f| f.most < UNBOUNDED)),
+        ("with close bounds", 20_000, has_both && shape == Shape::Close),
+        ("with nested bounds", 20_000, has_both && shape == Shape::Nested),
+        ("without capacity", 100_000, capacity == 0),
+        ("full before and after", 20_000, 0 < capacity && is_full),
+        ("of a day or more", 20_000, 96 <= request.frames.len()),
+    ]
+}
 
 #[test]
 fn no_budget_is_searched_in_a_million_requests() {
     let mut counters = Counters::default();
-    let mut met = AMONG_THE_MILLION.map(|_| 0);
+    let mut met = BTreeMap::new();
     for case in 0..1_000_000 {
         let mut random = Random::of_case(seed(), 20_000_000 + case);
         let frames = mixed_count(&mut random);
@@ -464,15 +476,15 @@ fn no_budget_is_searched_in_a_million_requests() {
         if case % 100 == 0 {
             assert_eq!(searched(request), plan, "{request:?}");
         }
-        for ((_, _, is_met), count) in AMONG_THE_MILLION.iter().zip(&mut met) {
-            *count += u64::from(is_met(&general));
+        for (kind, least, is_met) in kinds(&general) {
+            met.entry(kind).or_insert((least, 0)).1 += u64::from(is_met);
         }
     }
-    for ((name, least, _), count) in AMONG_THE_MILLION.iter().zip(met) {
-        println!("a million requests: {name}: {count}");
-        assert!(*least <= count, "{name}: {count}");
+    for (kind, (least, count)) in met {
+        println!("a million requests: {count} {kind}");
+        assert!(least <= count, "{count} {kind}");
     }
     assert_eq!(counters.one_level + counters.curve, 1_000_000);
-    assert!(300_000 <= counters.curve, "{} curves", counters.curve);
+    assert!(300_000 <= counters.curve.min(counters.one_level), "{counters:?}");
     Seen(counters).close("a million requests");
 }

@@ -76,9 +76,7 @@ pub fn certify(frames: &impl Frames, levels: &[u32], after: &mut [u32]) -> bool 
         gap: end,
     };
     let mut first = Needs { at: 0, more: u64::MAX };
-    let mut k = frames.count();
-    while 0 < k {
-        k -= 1;
+    for k in (0..frames.count()).rev() {
         let frame = frames.at(k);
         let level = u64::from(levels[k]);
         let reserves = match turn(level, behind) {

@@ -21,13 +21,11 @@ fn spend(frame: &Frame, have: u64, level: u64, reserve: u64) -> u64 {
 /// Overwrites certified levels with the plan's budgets. `after` has the reserves that the certificate wrote.
 pub fn follow(frames: &impl Frames, after: &[u32], levels: &mut [u32]) {
     let mut charge = frames.start();
-    let mut k = 0;
-    while k < frames.count() {
+    for k in 0..frames.count() {
         let frame = frames.at(k);
         let have = frame.room(charge) - frame.drain;
         let budget = spend(&frame, have, u64::from(levels[k]), u64::from(after[k]));
         levels[k] = budget as u32;
         charge = have - budget;
-        k += 1;
     }
 }

@@ -45,25 +45,25 @@ pub trait Frames {
     fn energy(&self) -> u64;
 }
 
-/// Document 01's frames: the harvest comes on top of the capacity, and no budget is above `most`, all that there is.
+/// Document 01's frames: the harvest comes on top of the capacity, and no budget is above `energy`, all that there is.
 #[derive(Clone, Copy, Debug)]
 pub struct Plain<'a> {
     pub capacity: u64,
     pub start: u64,
     pub end: u64,
-    pub most: u64,
+    pub energy: u64,
     pub harvest: &'a [u32],
 }
 
 impl<'a> Plain<'a> {
     /// The frames of a request of document 01.
     pub fn new(capacity: u64, start: u64, end: u64, harvest: &'a [u32]) -> Plain<'a> {
-        let most = start + harvest.iter().map(|&h| u64::from(h)).sum::<u64>();
+        let energy = start + harvest.iter().map(|&h| u64::from(h)).sum::<u64>();
         Plain {
             capacity,
             start,
             end,
-            most,
+            energy,
             harvest,
         }
     }
@@ -93,7 +93,7 @@ impl Frames for Plain<'_> {
             ceiling: self.capacity + inflow,
             drain: 0,
             least: 0,
-            most: self.most,
+            most: self.energy,
         }
     }
 
@@ -103,7 +103,7 @@ impl Frames for Plain<'_> {
     }
 
     fn energy(&self) -> u64 {
-        self.most
+        self.energy
     }
 }
 

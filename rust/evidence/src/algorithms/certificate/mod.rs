@@ -4,6 +4,7 @@
 //! The reserve R(l) of a level l is the least charge from which the frames left can draw l until the store is full or the
 //! end charge is met. Levels are the plan's if in every frame its level and the reserve behind it can be met, one more could
 //! not, and the level rises only where the store is empty and falls only where it is full. So a guess needs no proof.
+//! Two are made: one level for all frames, then the curve; where neither is certified, every frame's budget is searched.
 
 pub mod certify;
 pub mod curve;
@@ -79,39 +80,11 @@ pub fn plan_frames(frames: &impl Frames, scratch: &mut Scratch, budgets: &mut [u
     }
 }
 
-/// Writes the plan of frames with the given harvests from a charge; the end charge is within reach.
-pub fn plan_into(capacity: u64, charge: u64, end: u64, harvest: &[u32], budgets: &mut [u32]) {
-    let frames = Plain::new(capacity, charge, end, harvest);
-    let mut scratch = Scratch::new(harvest.len());
-    plan_frames(&frames, &mut scratch, budgets, &mut Counters::default());
-}
-
-/// The plan as a list.
+/// The plan of harvests from a charge; the end charge is within reach.
 pub fn plan(capacity: u64, charge: u64, end: u64, harvest: &[u32]) -> Vec<u32> {
+    let frames = Plain::new(capacity, charge, end, harvest);
     let mut budgets = vec![0; harvest.len()];
-    plan_into(capacity, charge, end, harvest, &mut budgets);
+    let mut scratch = Scratch::new(harvest.len());
+    plan_frames(&frames, &mut scratch, &mut budgets, &mut Counters::default());
     budgets
-}
-
-/// The greatest requirement behind any frame: the least charge there from which the budgets can be drawn without limit.
-fn greatest_requirement(frames: &impl Frames, budgets: &[u32]) -> u64 {
-    let mut requirement = frames.end();
-    let mut greatest = 0;
-    let mut k = frames.count();
-    while 0 < k {
-        k -= 1;
-        let frame = frames.at(k);
-        greatest = greatest.max(requirement);
-        requirement = (frame.drain + u64::from(budgets[k]) + requirement).saturating_sub(frame.inflow);
-    }
-    greatest
-}
-
-/// The needed capacity: the plan without limit must be able to carry what it requires, and the start and end charges.
-pub fn needed(start: u64, end: u64, harvest: &[u32]) -> u64 {
-    let all = harvest.iter().map(|&h| u64::from(h)).sum::<u64>();
-    let capacity = start + end + all;
-    let budgets = plan(capacity, start, end, harvest);
-    let frames = Plain::new(capacity, start, end, harvest);
-    greatest_requirement(&frames, &budgets).max(start).max(end)
 }

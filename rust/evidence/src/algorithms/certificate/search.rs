@@ -5,8 +5,7 @@ use super::frame::Frames;
 /// Whether a level can be drawn from a charge before frame `from` until the store is full or the end charge is met.
 fn goes(frames: &impl Frames, from: usize, charge: u64, level: u64) -> bool {
     let mut charge = charge;
-    let mut k = from;
-    while k < frames.count() {
+    for k in from..frames.count() {
         let frame = frames.at(k);
         let have = charge + frame.inflow;
         let need = frame.drain + frame.draw(level);
@@ -17,7 +16,6 @@ fn goes(frames: &impl Frames, from: usize, charge: u64, level: u64) -> bool {
             return false;
         }
         charge = have - need;
-        k += 1;
     }
     frames.end() <= charge
 }
@@ -40,13 +38,11 @@ fn greatest(frames: &impl Frames, next: usize, have: u64, least: u64, most: u64)
 /// Writes the plan's budgets.
 pub fn search(frames: &impl Frames, budgets: &mut [u32]) {
     let mut charge = frames.start();
-    let mut k = 0;
-    while k < frames.count() {
+    for k in 0..frames.count() {
         let frame = frames.at(k);
         let have = frame.room(charge) - frame.drain;
         let budget = greatest(frames, k + 1, have, frame.least, frame.most);
         budgets[k] = budget as u32;
         charge = have - budget;
-        k += 1;
     }
 }

@@ -30,8 +30,8 @@ impl End {
 }
 
 /// The curve is 0 below its low end and `full` above its high one. Its knots are at levels from one end to the other, both
-/// included. Where no level is between, the high end's is just below the low one's, there is no knot, and all else that the
-/// ends have says nothing. Level 0 is never counted and taken for one below the low end: no level is lower, so nobody asks
+/// included. Where no level is between, the high end's is just below the low one's, and neither the knots nor what else the
+/// ends have say anything. Level 0 is never counted and taken for one below the low end: no level is lower, so nobody asks
 /// for the reserve there. No level is above the roof.
 pub struct Curve<'a> {
     pub roof: u64,
@@ -44,7 +44,7 @@ pub struct Curve<'a> {
 impl<'a> Curve<'a> {
     /// The curve behind the last frame: the end charge at every level.
     pub fn at_end(end: u64, full: u64, roof: u64, knots: &'a mut Knots) -> Curve<'a> {
-        knots.begin();
+        knots.clear();
         let low = End {
             level: 1,
             height: end,
@@ -69,7 +69,6 @@ impl<'a> Curve<'a> {
     pub fn vanish(&mut self) {
         self.low.level = self.roof + 1;
         self.high.level = self.roof;
-        self.knots.clear();
     }
 
     /// Whether no level lies between its ends.
@@ -102,6 +101,7 @@ impl<'a> Curve<'a> {
     #[inline(always)]
     pub fn widen_low(&mut self, level: u64) {
         let step = if self.is_empty() {
+            self.knots.clear();
             self.high.height = 0;
             self.high.step = 0;
             0
@@ -129,6 +129,7 @@ impl<'a> Curve<'a> {
     #[inline(always)]
     pub fn widen_high(&mut self, level: u64) {
         let step = if self.is_empty() {
+            self.knots.clear();
             self.low.height = self.full;
             self.low.step = 0;
             0
@@ -180,7 +181,6 @@ impl<'a> Curve<'a> {
             return self.begin(i, at);
         }
         self.low.level = self.high.level + 1;
-        self.knots.clear();
     }
 
     /// Ends it at the last level that needs less than the ceiling, at which `full` would be reserved. At a level the need is
@@ -222,6 +222,5 @@ impl<'a> Curve<'a> {
             return self.finish(i, at, full);
         }
         self.high.level = self.last_empty();
-        self.knots.clear();
     }
 }

@@ -61,16 +61,10 @@ impl Knots {
     }
 
     /// Leaves no knot; new ones are to stand around the middle of the list.
-    pub fn begin(&mut self) {
-        self.end = self.list.len() / 2;
-        self.clear();
-        self.lost = 0;
-    }
-
-    /// Leaves no knot.
     #[inline(always)]
     pub fn clear(&mut self) {
-        self.first = self.end;
+        self.first = self.list.len() / 2;
+        self.end = self.first;
     }
 
     /// Puts a knot before all others, if it bends anything.
