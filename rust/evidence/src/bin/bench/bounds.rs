@@ -20,7 +20,7 @@ fn cost(measured: &Measured, unit: Unit, call: Call, is_chosen: impl Fn(&Row) ->
     Some(sum(true)? / sum(false)?)
 }
 
-/// What bounds cost at a number of frames, with the families that are named; what they cost in cold times has no aim.
+/// What bounds cost at a number of frames, with the families that are named; in cold times there is no aim.
 fn at(measured: &Measured, unit: Unit, call: Call, frames: usize) -> Option<String> {
     let all = cost(measured, unit, call, |row| row.frames == frames)?;
     if unit == Unit::Cold {
@@ -44,10 +44,10 @@ fn part(measured: &Measured, unit: Unit, call: Call) -> Option<String> {
 
 /// The section: a line for each call.
 pub fn report(measured: &Measured) -> String {
-    let [day, half_week, week] = FRAMES;
+    let frames = FRAMES.map(|frames| frames.to_string()).join(", ");
     let mut text = format!(
-        "\n## Bounds\n\nWith leasts and mosts at most {TOGETHER} of without, summed over the families at {day}, \
-         {half_week} and {week} frames;\nfamilies above {ALONE} are named. The nested bounds are not in these sums.\n\n"
+        "\n## Bounds\n\nFamilies with leasts and mosts at most {TOGETHER} of without, summed at {frames} frames; \
+         those above {ALONE} named.\n\n"
     );
     for call in CALLS {
         let parts: Vec<String> = UNITS.iter().filter_map(|&unit| part(measured, unit, call)).collect();

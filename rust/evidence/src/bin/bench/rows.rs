@@ -89,11 +89,6 @@ impl Row {
         format!("{}{bounded}", self.kind.name())
     }
 
-    /// Its name without its number of frames.
-    pub fn name(&self) -> String {
-        format!("{}, {} capacity", self.family(), self.size.name())
-    }
-
     /// Whether it has more than one request.
     fn is_random(&self) -> bool {
         match self.kind {

@@ -3,10 +3,10 @@
 
 use crate::rows::{Request, Row};
 use crate::time::black_box;
+use crate::words::{digits, with_or_without, worst};
 use evidence::algorithms::certificate::frame::{Bounded, Plain};
 use evidence::algorithms::certificate::search::search;
 use evidence::families::FRAMES;
-use std::fmt::Write;
 use std::time::Instant;
 
 /// How often a search is timed; the best counts.
@@ -59,29 +59,35 @@ impl Searched {
         Some(found.1)
     }
 
-    /// The mean and the worst of some rows.
-    fn of_rows(&self, is_chosen: impl Fn(&Row) -> bool) -> String {
-        let chosen: Vec<&(Row, f64)> = self.0.iter().filter(|(row, _)| is_chosen(row)).collect();
+    /// The mean and the worst of the families without bounds or with them.
+    fn of_families(&self, bounded: bool, frames: usize) -> String {
+        let is_chosen = |row: &Row| row.is_summed() && (row.bounded, row.frames) == (bounded, frames);
+        let chosen: Vec<(Row, f64)> = self.0.iter().copied().filter(|(row, _)| is_chosen(row)).collect();
         let mean = chosen.iter().map(|(_, micros)| micros).sum::<f64>() / chosen.len() as f64;
-        let worst = chosen.iter().max_by(|a, b| a.1.total_cmp(&b.1));
-        worst.map_or(String::new(), |(row, micros)| {
-            format!("{mean:.0} us, the worst {micros:.0} ({})", row.name())
+        format!(
+            "{} {}, the worst {}",
+            with_or_without(bounded),
+            digits(mean),
+            worst(&chosen)
+        )
+    }
+
+    /// The nested bounds.
+    fn of_nested(&self, frames: usize) -> String {
+        let nested = self.0.iter().find(|(row, _)| !row.is_summed() && row.frames == frames);
+        nested.map_or(String::new(), |(row, micros)| {
+            format!("{} {}", row.family(), digits(*micros))
         })
     }
 
-    /// The means and the worst rows of the families, and the nested bounds.
+    /// The section: a line for each number of frames.
     pub fn report(&self) -> String {
-        let mut text = "\n## Every budget searched, in the twin\n\n".to_string();
+        let mut text = "\n## Every budget searched, in the twin, in us\n\n".to_string();
         for frames in FRAMES {
-            let families =
-                |bounded| self.of_rows(|row| row.is_summed() && (row.bounded, row.frames) == (bounded, frames));
-            let nested = self.of_rows(|row| !row.is_summed() && row.frames == frames);
-            let _ = writeln!(
-                text,
-                "- {frames} frames: without bounds {}; with bounds {}; {nested}",
-                families(false),
-                families(true)
-            );
+            let families = [false, true]
+                .map(|bounded| self.of_families(bounded, frames))
+                .join("; ");
+            text += &format!("- {frames} frames: {families}; {}\n", self.of_nested(frames));
         }
         text
     }

@@ -5,6 +5,7 @@ use crate::guess::guess;
 use crate::measured::{Measured, Unit, WEEK};
 use crate::rows::{Kind, Row};
 use crate::search::Searched;
+use crate::words::digits;
 
 /// What a column tells of some rows.
 #[derive(Clone, Copy)]
@@ -81,15 +82,9 @@ fn measured_ones(all: &[Tells], measured: &Measured, call: Call) -> Vec<Tells> {
     all.iter().copied().filter(is_measured).collect()
 }
 
-/// A figure with three digits or more, empty without one.
-fn text(figure: Option<f64>) -> String {
-    match figure {
-        Some(figure) if figure < 0.1 => format!("{figure:.3}"),
-        Some(figure) if figure < 10.0 => format!("{figure:.2}"),
-        Some(figure) if figure < 100.0 => format!("{figure:.1}"),
-        Some(figure) => format!("{figure:.0}"),
-        None => String::new(),
-    }
+/// A figure's cell, empty without one.
+fn cell(figure: Option<f64>) -> String {
+    figure.map_or(String::new(), digits)
 }
 
 /// A line of a table.
@@ -112,7 +107,7 @@ fn pair(tells: Tells, measured: &Measured, call: Call, kind: Kind) -> String {
         tells.figure(measured, call, &rows)
     };
     let figures = [false, true].into_iter().filter_map(figure);
-    let texts: Vec<String> = figures.map(|figure| text(Some(figure))).collect();
+    let texts: Vec<String> = figures.map(digits).collect();
     texts.join(", ")
 }
 
@@ -124,9 +119,15 @@ pub fn families(measured: &Measured) -> String {
             .map(move |tells| (call, tells))
     };
     let columns: Vec<(Call, Tells)> = CALLS.into_iter().flat_map(of_call).collect();
-    let names = columns
-        .iter()
-        .map(|(call, tells)| format!("{} {}", call.name(), tells.head(measured)));
+    let names = columns.iter().enumerate().map(|(i, &(call, tells))| {
+        let begins = i == 0 || columns[i - 1].0 != call;
+        let call = if begins {
+            format!("{}: ", call.name())
+        } else {
+            String::new()
+        };
+        call + &tells.head(measured)
+    });
     let of_kind = |kind: Kind| {
         let cells = columns.iter().map(|&(call, tells)| pair(tells, measured, call, kind));
         line([kind.name()].into_iter().chain(cells))
@@ -146,7 +147,7 @@ fn of_call(call: Call, measured: &Measured, more: &[More]) -> String {
     let names = names.chain(more.iter().map(|(name, _)| name.to_string()));
     let of_row = |row: &Row| {
         let first = [row.family(), row.size.name().to_string(), row.frames.to_string()];
-        let figures = columns.iter().map(|tells| text(tells.figure(measured, call, &[*row])));
+        let figures = columns.iter().map(|tells| cell(tells.figure(measured, call, &[*row])));
         let last = more.iter().map(|(_, cell)| cell(row));
         line(first.into_iter().chain(figures).chain(last))
     };
@@ -156,7 +157,7 @@ fn of_call(call: Call, measured: &Measured, more: &[More]) -> String {
 
 /// All rows; where the search was measured, its times stand behind the guesses that were certified.
 pub fn whole(measured: &Measured, searched: Option<&Searched>) -> String {
-    let micros = |row: &Row| text(searched.and_then(|searched| searched.micros(row)));
+    let micros = |row: &Row| cell(searched.and_then(|searched| searched.micros(row)));
     let more: [More; 2] = [("guess", &guess), ("searched us", &micros)];
     let more = if searched.is_some() { &more[..] } else { &[] };
     let plan = of_call(Call::Plan, measured, more);

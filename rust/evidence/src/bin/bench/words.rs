@@ -20,29 +20,35 @@ pub fn with_or_without(bounded: bool) -> &'static str {
     }
 }
 
+/// A figure with three digits or more.
+pub fn digits(figure: f64) -> String {
+    if figure < 0.1 {
+        format!("{figure:.3}")
+    } else if figure < 10.0 {
+        format!("{figure:.2}")
+    } else if figure < 100.0 {
+        format!("{figure:.1}")
+    } else {
+        format!("{figure:.0}")
+    }
+}
+
 /// The row with the greatest of some figures.
 pub fn worst(figures: &[(Row, f64)]) -> String {
     let worst = figures.iter().max_by(|a, b| a.1.total_cmp(&b.1));
     worst.map_or(String::new(), |(row, figure)| {
-        format!("{figure:.2} {}, {} {}", row.family(), row.size.name(), row.frames)
+        format!(
+            "{} {}, {} {}",
+            digits(*figure),
+            row.family(),
+            row.size.name(),
+            row.frames
+        )
     })
 }
 
-/// The rows of a family whose figures are above a limit.
-fn named_of_family(figures: &[(Row, f64)], limit: f64) -> String {
-    let above: Vec<&(Row, f64)> = figures.iter().filter(|(_, figure)| limit < *figure).collect();
-    if 2 < above.len() && above.len() == figures.len() {
-        let least = above.iter().map(|(_, figure)| *figure).fold(f64::INFINITY, f64::min);
-        let most = above.iter().map(|(_, figure)| *figure).fold(0.0, f64::max);
-        return format!("all {least:.2} to {most:.2}");
-    }
-    let of_row = |(row, figure): &&(Row, f64)| format!("{} {} {figure:.2}", row.size.name(), row.frames);
-    let rows: Vec<String> = above.iter().map(of_row).collect();
-    rows.join(", ")
-}
-
-/// The rows whose figures are above a limit, in one line, those of a family together.
-pub fn named(figures: &[(Row, f64)], limit: f64) -> String {
+/// Figures with their rows, those of a family together.
+fn by_family(figures: &[(Row, f64)]) -> Vec<(String, Vec<(Row, f64)>)> {
     let mut families: Vec<(String, Vec<(Row, f64)>)> = Vec::new();
     for figure in figures {
         let name = figure.0.family();
@@ -51,10 +57,33 @@ pub fn named(figures: &[(Row, f64)], limit: f64) -> String {
             None => families.push((name, vec![*figure])),
         }
     }
-    let names = families
-        .iter()
-        .map(|(name, figures)| (name, named_of_family(figures, limit)));
-    let names = names.filter(|(_, rows)| !rows.is_empty());
-    let names: Vec<String> = names.map(|(name, rows)| format!("{name}: {rows}")).collect();
-    names.join("; ")
+    families
+}
+
+/// The least and the greatest of some figures.
+fn range(figures: &[(Row, f64)]) -> String {
+    let least = figures.iter().map(|(_, figure)| *figure).fold(f64::INFINITY, f64::min);
+    let most = figures.iter().map(|(_, figure)| *figure).fold(0.0, f64::max);
+    format!("{least:.2} to {most:.2}")
+}
+
+/// The rows whose figures are above a limit, in one line: one by one, or families of which every row is.
+pub fn named(figures: &[(Row, f64)], limit: f64) -> String {
+    let is_above = |(_, figure): &(Row, f64)| limit < *figure;
+    let of_row = |(row, figure): &(Row, f64)| format!("{} {} {figure:.2}", row.size.name(), row.frames);
+    let (mut named, mut whole, mut of_whole) = (Vec::new(), Vec::new(), Vec::new());
+    for (name, figures) in by_family(figures) {
+        let above: Vec<(Row, f64)> = figures.iter().copied().filter(is_above).collect();
+        if above.len() == figures.len() {
+            whole.push(name);
+            of_whole.extend(above);
+        } else if !above.is_empty() {
+            let rows: Vec<String> = above.iter().map(of_row).collect();
+            named.push(format!("{name}: {}", rows.join(", ")));
+        }
+    }
+    if !whole.is_empty() {
+        named.push(format!("every row of {}: {}", whole.join("; "), range(&of_whole)));
+    }
+    named.join("; ")
 }
