@@ -71,9 +71,24 @@ enum Shape {
     Close,
     /// The bounds of every frame lie within those of the next one.
     Nested,
+    /// Two pairs of bounds in turn.
+    InTurn([(u64, u64); 2]),
 }
 
-const SHAPES: [Shape; 4] = [Shape::Mixed, Shape::Mixed, Shape::Close, Shape::Nested];
+impl Shape {
+    /// A random shape, for harvests of about `most`.
+    fn any(most: u64, random: &mut Random) -> Shape {
+        match random.up_to(4) {
+            0 => Shape::Close,
+            1 => Shape::Nested,
+            2 => Shape::InTurn([(); 2].map(|_| {
+                let least = random.up_to(most / 2);
+                (least, least + random.up_to(most))
+            })),
+            _ => Shape::Mixed,
+        }
+    }
+}
 
 /// What general frames have besides their harvests: of both kinds of bounds each may be absent, and loads are at most so large.
 #[derive(Clone, Copy)]
@@ -90,7 +105,7 @@ impl Terms {
     fn any(most: u32, random: &mut Random) -> Terms {
         Terms {
             ceiling: *random.pick(&CEILINGS),
-            shape: *random.pick(&SHAPES),
+            shape: Shape::any(most.into(), random),
             leasts: random.one_in(2),
             mosts: random.one_in(2),
             load: u64::from(random.one_in(2)) * random.up_to(u64::from(most) / 6),
@@ -113,6 +128,7 @@ impl Terms {
                 (least, least + random.up_to(scale / 16))
             }
             Shape::Nested => ((scale / 4).saturating_sub(i), scale / 4 + 1 + i),
+            Shape::InTurn(pairs) => pairs[i as usize % 2],
         };
         (
             if self.leasts { least } else { 0 },
@@ -403,25 +419,26 @@ fn nested_bounds_lose_no_knot() {
     seen.close("nested bounds");
 }
 
-/// A small harvest and a large one in turn, in a store that the large one nearly fills: behind every other frame the curve
-/// jumps from 0 to the full store, and both its ends are to be kept.
+/// Two frames in turn in a store that takes in only what it has room for: behind every other one the curve jumps from 0 to the
+/// full store, and both its ends are to be kept.
 #[test]
 fn jumps_lose_no_knot() {
     let mut seen = Seen::default();
-    let pair = [(3, 13, 28), (76, 9, 11)];
     for count in [2, 4, 8].into_iter().chain(FRAMES) {
-        let frames = pair.iter().cycle().take(count).map(|&(inflow, least, most)| Frame {
-            inflow,
-            ceiling: 77,
-            drain: 0,
-            least,
-            most,
-        });
-        seen.plan(&Listed {
-            start: 54,
-            end: 66,
-            frames: frames.collect(),
-        });
+        for (ceiling, start, end, pair) in [
+            (7, 4, 3, [(4, 2, 5), (0, 1, 3)]),
+            (77, 54, 66, [(3, 13, 28), (76, 9, 11)]),
+        ] {
+            let frames = pair.iter().cycle().take(count).map(|&(inflow, least, most)| Frame {
+                inflow,
+                ceiling,
+                drain: 0,
+                least,
+                most,
+            });
+            let frames = frames.collect();
+            seen.plan(&Listed { start, end, frames });
+        }
     }
     seen.close("jumps");
 }
@@ -438,7 +455,7 @@ fn mixed_count(random: &mut Random) -> usize {
 }
 
 /// What one of the million requests may be, how many of them are at least, and whether this one is.
-fn kinds(general: &General) -> [(&'static str, u64, bool); 11] {
+fn kinds(general: &General) -> [(&'static str, u64, bool); 12] {
     let General {
         capacity,
         terms: Terms { ceiling, shape, .. },
@@ -456,6 +473,11 @@ fn kinds(general: &General) -> [(&'static str, u64, bool); 11] {
         ("with mosts", 200_000, has(|f| f.most < UNBOUNDED)),
         ("with close bounds", 20_000, has_both && shape == Shape::Close),
         ("with nested bounds", 20_000, has_both && shape == Shape::Nested),
+        (
+            "with bounds in turn",
+            20_000,
+            has_both && matches!(shape, Shape::InTurn(_)),
+        ),
         ("without capacity", 100_000, capacity == 0),
         ("full before and after", 20_000, 0 < capacity && is_full),
         ("of a day or more", 20_000, 96 <= request.frames.len()),
