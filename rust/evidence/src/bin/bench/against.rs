@@ -1,10 +1,10 @@
-//! The aims against the build beside: sums over the families, without bounds and with them. They hold for instructions.
-//! The same sums in time stand beside, without an aim: where a build's code lies in memory moves single rows by up to a
-//! tenth, as the same library as both builds shows.
+//! The aims against the build beside: sums over the families, without bounds and with them, in instructions. The sums
+//! in time have no aim: where a build's code lies in memory moves them by some hundredths and single rows by up to a
+//! tenth, as the same library beside itself shows.
 
 use crate::contenders::{Call, Contender, CALLS};
 use crate::measured::{Measured, Unit, HALF_WEEK, UNITS, WEEK};
-use crate::rows::Row;
+use crate::rows::{Figure, Row};
 use crate::words::{verdict, worst};
 
 /// Rows that are summed, and the most that their sum may be of the other build's in instructions, if there is an aim.
@@ -61,7 +61,7 @@ impl Group {
     fn worst(&self, measured: &Measured, unit: Unit, call: Call) -> Option<String> {
         let rows = measured.rows(|row| (self.holds)(row) && HALF_WEEK <= row.frames);
         let ratio = |row: Row| Some((row, measured.ratio(unit, call, Contender::Beside, &[row])?));
-        let ratios: Option<Vec<(Row, f64)>> = rows.into_iter().map(ratio).collect();
+        let ratios: Option<Vec<Figure>> = rows.into_iter().map(ratio).collect();
         Some(format!("{} {}", unit.name(), worst(&ratios?)))
     }
 

@@ -1,8 +1,8 @@
-//! The aims for speed of single rows, and every row that misses one.
+//! The aims for the speed of single rows, with those that are named.
 
 use crate::contenders::{Call, Contender};
 use crate::measured::{Measured, Unit, HALF_WEEK, TIMES, WEEK};
-use crate::rows::Row;
+use crate::rows::{Figure, Row};
 use crate::words::{named, verdict, worst};
 
 /// An aim: a figure of a call is at most a limit. Rows above another one are named, or the worst alone.
@@ -77,7 +77,7 @@ const AIMS: [Aim; 6] = [
 
 impl Aim {
     /// Its figures in one unit, in the order of the rows.
-    fn figures(&self, measured: &Measured, unit: Unit) -> Vec<(Row, f64)> {
+    fn figures(&self, measured: &Measured, unit: Unit) -> Vec<Figure> {
         let figure = |&row: &Row| Some((row, (self.figure)(measured, unit, self.call, row)?));
         measured.rows.iter().filter_map(figure).collect()
     }

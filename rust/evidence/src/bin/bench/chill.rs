@@ -2,7 +2,7 @@
 
 use crate::contenders::{Call, Contender, CALLS, CONTENDERS};
 use crate::measured::{Measured, Unit, HALF_WEEK};
-use crate::rows::Row;
+use crate::rows::{Figure, Row};
 use crate::words::worst;
 
 /// Some rows' cold times against their warm ones.
@@ -27,7 +27,7 @@ fn line(measured: &Measured, call: Call) -> String {
     let of = |contender| sums(measured, call, contender);
     let sums: Vec<String> = CONTENDERS.into_iter().filter_map(of).collect();
     let of_row = |&row: &Row| Some((row, cost(measured, call, Contender::Library, &[row])?));
-    let rows: Vec<(Row, f64)> = measured.rows.iter().filter_map(of_row).collect();
+    let rows: Vec<Figure> = measured.rows.iter().filter_map(of_row).collect();
     let (name, sums) = (call.name(), sums.join("; "));
     format!("- {name}: {sums}; the library's worst row {}\n", worst(&rows))
 }

@@ -1,20 +1,15 @@
 //! Cold times: a panel plans once, so another request is called before every call. A pass goes through the requests of
-//! all rows in an order of its own, one contender after another; each call is timed by itself, less the clock's own
-//! time, and the figure is the median over the passes. So a processor has not learned a request's branches, and its
-//! lists come from the outer caches, as more than a thousand others were there since. Warm are the contender's code,
-//! its stack and the list of budgets, which the request before has used too.
+//! all rows in an order of its own, one contender after another, and times each call by itself, less the clock's own
+//! time. So a processor has not learned a request's branches, and its lists come from the outer caches, as more than a
+//! thousand others were there since. Warm are the contender's code, its stack and the list of budgets, which the
+//! request before has used too. The figure is the lower quartile of the passes, as other programs disturb some of them.
 
-use crate::beside::Beside;
-use crate::contenders::Call;
-use crate::measured::{Column, Unit};
-use crate::time::{columns, untimed, OfRow};
+use crate::time::{OfRow, Timed};
 use evidence::random::{seed, Random};
 use std::time::Instant;
 
-const PASSES: u64 = 51;
-
 /// How often the clock is asked for its own time.
-const ASKED: usize = 10_001;
+const ASKED: usize = 1_001;
 
 /// Microseconds between two looks at the clock, a call between them.
 fn once(call: impl FnOnce()) -> f64 {
@@ -23,11 +18,11 @@ fn once(call: impl FnOnce()) -> f64 {
     begin.elapsed().as_secs_f64() * 1e6
 }
 
-/// The middle one of some times.
-fn median(times: &[f64]) -> f64 {
+/// The lower quartile of some times.
+pub fn lower_quartile(times: &[f64]) -> f64 {
     let mut sorted = times.to_vec();
     sorted.sort_by(f64::total_cmp);
-    sorted[sorted.len() / 2]
+    sorted[sorted.len() / 4]
 }
 
 /// The numbers below a count, in a random order.
@@ -39,22 +34,18 @@ fn shuffled(count: usize, random: &mut Random) -> Vec<usize> {
     order
 }
 
-/// The cold times of a call.
-pub fn measure(call: Call, requests: &[OfRow], beside: Option<&Beside>) -> Vec<Column> {
+/// One pass, the same for every contender.
+pub fn pass(requests: &[OfRow], all: &mut [Timed], number: u64) {
     let looks: Vec<f64> = (0..ASKED).map(|_| once(|| ())).collect();
-    let clock = median(&looks);
-    let mut all = untimed(call, beside, requests.len());
-    for pass in 0..PASSES {
-        let order = shuffled(requests.len(), &mut Random::of_case(seed(), pass));
-        for timed in &mut all {
-            for &i in &order {
-                let (row, request) = &requests[i];
-                if timed.contender.answers(row) {
-                    let time = once(|| (timed.run)(request));
-                    timed.times[i].push(time - clock);
-                }
+    let clock = lower_quartile(&looks);
+    let order = shuffled(requests.len(), &mut Random::of_case(seed(), number));
+    for timed in all {
+        for &i in &order {
+            let (row, request) = &requests[i];
+            if timed.contender.answers(row) {
+                let time = once(|| (timed.run)(request));
+                timed.cold[i].push(time - clock);
             }
         }
     }
-    columns(Unit::Cold, call, requests, &all, median)
 }

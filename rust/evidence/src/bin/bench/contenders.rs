@@ -3,7 +3,6 @@
 
 use crate::beside::Beside;
 use crate::rows::{Request, Row};
-use crate::time::black_box;
 use energy::{Energy, Figures, Frames, Linked};
 use evidence::algorithms::source;
 use evidence::fast::Fast;
@@ -86,6 +85,16 @@ impl Contender {
             Contender::Twin => Some(by(Fast, call)),
             Contender::Source => Some(source(call)),
         }
+    }
+}
+
+/// Keeps a value from being computed beforehand or left out.
+pub fn black_box<T>(value: T) -> T {
+    // SAFETY: the value is read once, and the one it was read from is forgotten.
+    unsafe {
+        let read = std::ptr::read_volatile(&value);
+        std::mem::forget(value);
+        read
     }
 }
 

@@ -2,7 +2,7 @@
 
 use crate::contenders::{Call, CALLS};
 use crate::measured::{Measured, HALF_WEEK, WEEK};
-use crate::rows::{Kind, Row};
+use crate::rows::{Figure, Kind, Row};
 use crate::words::{named, verdict, with_or_without};
 
 /// The most that instructions may grow by.
@@ -18,7 +18,7 @@ fn of_family(measured: &Measured, call: Call, kind: Kind, bounded: bool) -> Opti
 fn rows_above(measured: &Measured, call: Call, bounded: bool) -> String {
     let rows = measured.rows(|row| row.bounded == bounded);
     let growth = |row: Row| Some((row, measured.growth(call, &[row])?));
-    let growths: Vec<(Row, f64)> = rows.into_iter().filter_map(growth).collect();
+    let growths: Vec<Figure> = rows.into_iter().filter_map(growth).collect();
     named(&growths, LIMIT)
 }
 

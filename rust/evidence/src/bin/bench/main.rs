@@ -6,6 +6,7 @@ mod beside;
 mod bounds;
 mod chill;
 mod cold;
+mod columns;
 mod contenders;
 mod growth;
 mod guess;
@@ -20,7 +21,7 @@ mod warm;
 mod words;
 
 use beside::Beside;
-use contenders::{Call, CALLS};
+use contenders::Call;
 use evidence::random::seed;
 use measured::{Column, Measured};
 use search::Searched;
@@ -85,17 +86,6 @@ fn heading() -> String {
     format!("largest harvest {most}; seed {seed}; machine: {machine}; load {load}")
 }
 
-/// The columns of all times.
-fn times(beside: Option<&Beside>) -> Vec<Column> {
-    let requests = time::requests();
-    let of_call = |call| {
-        let mut columns = warm::measure(call, &requests, beside);
-        columns.extend(cold::measure(call, &requests, beside));
-        columns
-    };
-    CALLS.into_iter().flat_map(of_call).collect()
-}
-
 /// What some columns tell.
 fn measured(columns: Vec<Column>, beside: Option<&Beside>) -> Measured {
     Measured {
@@ -105,7 +95,7 @@ fn measured(columns: Vec<Column>, beside: Option<&Beside>) -> Measured {
     }
 }
 
-/// The sums over the families, and how they grow.
+/// The aims for sums over the families.
 fn sums(measured: &Measured) -> String {
     let (against, growth) = (against::report(measured), growth::report(measured));
     format!("\n## Aims\n\n{against}{growth}")
@@ -114,13 +104,26 @@ fn sums(measured: &Measured) -> String {
 /// Counted instructions alone.
 fn run_instructions(beside: Option<&Beside>) -> Result<(), String> {
     let measured = measured(instructions::count(beside)?, beside);
-    print!(
-        "{}{}{}",
+    let (table, sums, bounds) = (
         table::whole(&measured, None),
         sums(&measured),
-        bounds::report(&measured)
+        bounds::report(&measured),
     );
+    print!("{table}{sums}{bounds}");
     Ok(())
+}
+
+/// What is printed of everything that was measured.
+fn summary(measured: &Measured, searched: &Searched) -> String {
+    let sections = [
+        table::families(measured),
+        sums(measured),
+        aims::report(measured),
+        bounds::report(measured),
+        chill::report(measured),
+        searched.report(),
+    ];
+    sections.concat()
 }
 
 /// Everything, with the whole table in a file if one is named.
@@ -129,28 +132,13 @@ fn run_all(beside: Option<&Beside>, table: Option<&Path>) -> Result<(), String> 
         println!("{reason}");
         Vec::new()
     });
-    columns.extend(times(beside));
+    columns.extend(time::measure(beside));
     let measured = measured(columns, beside);
     let searched = Searched::measure(&measured.rows);
-    println!("{}\n", heading());
-    print!(
-        "{}{}{}",
-        table::families(&measured),
-        sums(&measured),
-        aims::report(&measured)
-    );
-    print!(
-        "{}{}{}",
-        bounds::report(&measured),
-        chill::report(&measured),
-        searched.report()
-    );
+    let heading = heading();
+    print!("{heading}\n\n{}", summary(&measured, &searched));
     if let Some(path) = table {
-        let text = format!(
-            "{TITLE}\n\n{}\n\n{}",
-            heading(),
-            table::whole(&measured, Some(&searched))
-        );
+        let text = format!("{TITLE}\n\n{heading}\n\n{}", table::whole(&measured, Some(&searched)));
         std::fs::write(path, text).map_err(|error| format!("{}: {error}", path.display()))?;
     }
     rest::measure();

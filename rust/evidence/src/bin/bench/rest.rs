@@ -1,7 +1,7 @@
 //! The rest of the run: files, a shift, and the linear program.
 
+use crate::contenders::black_box;
 use crate::rows::MOST;
-use crate::time::black_box;
 use crate::warm::alone;
 use energy::{Energy, Figures, Frames};
 use evidence::algorithms::linear;

@@ -73,6 +73,9 @@ pub struct Row {
     pub frames: usize,
 }
 
+/// A figure of a row.
+pub type Figure = (Row, f64);
+
 impl Row {
     /// Whether it counts in the sums over the families.
     pub fn is_summed(&self) -> bool {

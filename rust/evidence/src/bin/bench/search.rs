@@ -1,8 +1,8 @@
 //! The fallback: what a plan takes in the twin where no guess is certified and every budget is searched. The guesses
 //! before it, which take as long as a plan, are not in it.
 
-use crate::rows::{Request, Row};
-use crate::time::black_box;
+use crate::contenders::black_box;
+use crate::rows::{Figure, Request, Row};
 use crate::words::{digits, with_or_without, worst};
 use evidence::algorithms::certificate::frame::{Bounded, Plain};
 use evidence::algorithms::certificate::search::search;
@@ -13,7 +13,7 @@ use std::time::Instant;
 const ROUNDS: usize = 3;
 
 /// Microseconds of the search in all rows.
-pub struct Searched(Vec<(Row, f64)>);
+pub struct Searched(Vec<Figure>);
 
 /// Searches all budgets of a request.
 fn search_all(request: &Request, is_bounded: bool, budgets: &mut [u32]) {
@@ -62,7 +62,7 @@ impl Searched {
     /// The mean and the worst of the families without bounds or with them.
     fn of_families(&self, bounded: bool, frames: usize) -> String {
         let is_chosen = |row: &Row| row.is_summed() && (row.bounded, row.frames) == (bounded, frames);
-        let chosen: Vec<(Row, f64)> = self.0.iter().copied().filter(|(row, _)| is_chosen(row)).collect();
+        let chosen: Vec<Figure> = self.0.iter().copied().filter(|(row, _)| is_chosen(row)).collect();
         let mean = chosen.iter().map(|(_, micros)| micros).sum::<f64>() / chosen.len() as f64;
         format!(
             "{} {}, the worst {}",

@@ -1,86 +1,12 @@
 //! The tables: a line for each family, and all rows. A column in which nothing was measured is left out.
 
-use crate::contenders::{Call, Contender, CALLS};
+use crate::columns::{measured_ones, Tells, FAMILIES, ROWS};
+use crate::contenders::{Call, CALLS};
 use crate::guess::guess;
-use crate::measured::{Measured, Unit, WEEK};
+use crate::measured::{Measured, WEEK};
 use crate::rows::{Kind, Row};
 use crate::search::Searched;
 use crate::words::digits;
-
-/// What a column tells of some rows.
-#[derive(Clone, Copy)]
-enum Tells {
-    /// The library's mean.
-    Mean(Unit),
-    /// The library's sum against another contender's.
-    Ratio(Unit, Contender),
-    Growth,
-}
-
-use Contender::{Beside, Source, Twin};
-use Tells::{Growth, Mean, Ratio};
-use Unit::{Cold, Instructions, Warm};
-
-/// The columns of the table of families.
-const FAMILIES: [Tells; 7] = [
-    Mean(Warm),
-    Mean(Cold),
-    Ratio(Instructions, Beside),
-    Ratio(Warm, Source),
-    Ratio(Cold, Source),
-    Ratio(Warm, Twin),
-    Growth,
-];
-
-/// The columns of the table of all rows.
-const ROWS: [Tells; 11] = [
-    Mean(Instructions),
-    Ratio(Instructions, Beside),
-    Growth,
-    Mean(Warm),
-    Mean(Cold),
-    Ratio(Warm, Beside),
-    Ratio(Cold, Beside),
-    Ratio(Warm, Source),
-    Ratio(Cold, Source),
-    Ratio(Warm, Twin),
-    Ratio(Cold, Twin),
-];
-
-impl Tells {
-    /// The column's name.
-    fn head(self, measured: &Measured) -> String {
-        match self {
-            Mean(Instructions) => "instructions".to_string(),
-            Mean(unit) => format!("{} us", unit.name()),
-            Ratio(unit, other) => format!("{} / {}", unit.name(), measured.name(other)),
-            Growth => "growth".to_string(),
-        }
-    }
-
-    /// Its figure for a call in some rows.
-    fn figure(self, measured: &Measured, call: Call, rows: &[Row]) -> Option<f64> {
-        match self {
-            Mean(unit) => Some(measured.library(unit, call, rows)? / rows.len() as f64),
-            Ratio(unit, other) => measured.ratio(unit, call, other, rows),
-            Growth => measured.growth(call, rows),
-        }
-    }
-
-    /// Whether it was measured in any row.
-    fn is_measured(self, measured: &Measured, call: Call) -> bool {
-        measured
-            .rows
-            .iter()
-            .any(|&row| self.figure(measured, call, &[row]).is_some())
-    }
-}
-
-/// Those columns of a table that were measured.
-fn measured_ones(all: &[Tells], measured: &Measured, call: Call) -> Vec<Tells> {
-    let is_measured = |tells: &Tells| tells.is_measured(measured, call);
-    all.iter().copied().filter(is_measured).collect()
-}
 
 /// A figure's cell, empty without one.
 fn cell(figure: Option<f64>) -> String {
@@ -111,29 +37,31 @@ fn pair(tells: Tells, measured: &Measured, call: Call, kind: Kind) -> String {
     texts.join(", ")
 }
 
+/// The names of a call's columns; the first one names the call.
+fn names(call: Call, columns: &[Tells], measured: &Measured) -> Vec<String> {
+    let mut names: Vec<String> = columns.iter().map(|tells| tells.head(measured)).collect();
+    if let Some(first) = names.first_mut() {
+        *first = format!("{}: {first}", call.name());
+    }
+    names
+}
+
 /// The table of families: plan and needed capacity of a week over all capacities, without bounds and with them.
 pub fn families(measured: &Measured) -> String {
-    let of_call = |call| {
-        measured_ones(&FAMILIES, measured, call)
-            .into_iter()
-            .map(move |tells| (call, tells))
-    };
-    let columns: Vec<(Call, Tells)> = CALLS.into_iter().flat_map(of_call).collect();
-    let names = columns.iter().enumerate().map(|(i, &(call, tells))| {
-        let begins = i == 0 || columns[i - 1].0 != call;
-        let call = if begins {
-            format!("{}: ", call.name())
-        } else {
-            String::new()
-        };
-        call + &tells.head(measured)
-    });
-    let of_kind = |kind: Kind| {
-        let cells = columns.iter().map(|&(call, tells)| pair(tells, measured, call, kind));
-        line([kind.name()].into_iter().chain(cells))
-    };
-    let lines: String = Kind::all().into_iter().map(of_kind).collect();
-    head(["harvest".to_string()].into_iter().chain(names)) + &lines
+    let calls = CALLS.map(|call| (call, measured_ones(&FAMILIES, measured, call)));
+    let of_call = |(call, columns): &(Call, Vec<Tells>)| names(*call, columns, measured);
+    let names = ["harvest".to_string()]
+        .into_iter()
+        .chain(calls.iter().flat_map(of_call));
+    let mut text = head(names);
+    for kind in Kind::all() {
+        let mut cells = vec![kind.name()];
+        for (call, columns) in &calls {
+            cells.extend(columns.iter().map(|&tells| pair(tells, measured, *call, kind)));
+        }
+        text += &line(cells);
+    }
+    text
 }
 
 /// A column that is not a figure of the library: its name, and its cell in a row.

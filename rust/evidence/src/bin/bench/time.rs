@@ -1,63 +1,91 @@
-//! What is timed: every request of every row, by every contender. How is told in `warm` and `cold`.
+//! What is timed: every request of every row, by every contender, warm and cold. All of it in turns, so that what
+//! disturbs the machine for a while disturbs all of it, and none of it in every round.
 
 use crate::beside::Beside;
-use crate::contenders::{Call, Contender, Run, CONTENDERS};
+use crate::cold::{lower_quartile, pass};
+use crate::contenders::{Call, Contender, Run, CALLS, CONTENDERS};
 use crate::measured::{Column, Unit};
 use crate::rows::{rows, Request, Row, TIMED};
+use crate::warm::{best, round};
 
-/// Keeps a value from being computed beforehand or left out.
-pub fn black_box<T>(value: T) -> T {
-    // SAFETY: the value is read once, and the one it was read from is forgotten.
-    unsafe {
-        let read = std::ptr::read_volatile(&value);
-        std::mem::forget(value);
-        read
-    }
-}
+/// How often each request is timed warm, and how often cold for each of these times.
+const ROUNDS: u64 = 30;
+const PASSES: u64 = 2;
 
 /// A request with its row.
 pub type OfRow = (Row, Request);
 
+/// A contender that makes a call, and all times of each request.
+pub struct Timed {
+    call: Call,
+    pub contender: Contender,
+    pub run: Run,
+    pub warm: Vec<Vec<f64>>,
+    pub cold: Vec<Vec<f64>>,
+}
+
 /// The timed requests of all rows.
-pub fn requests() -> Vec<OfRow> {
+fn requests() -> Vec<OfRow> {
     let of_row = |row: Row| row.requests(TIMED).into_iter().map(move |request| (row, request));
     rows().into_iter().flat_map(of_row).collect()
 }
 
-/// A contender that makes a call, and all its times of each request.
-pub struct Timed {
-    pub contender: Contender,
-    pub run: Run,
-    pub times: Vec<Vec<f64>>,
-}
-
-/// The contenders that take part, with nothing timed of so many requests.
-pub fn untimed(call: Call, beside: Option<&Beside>, requests: usize) -> Vec<Timed> {
+/// The contenders that take part in a call, with nothing timed of so many requests.
+fn untimed(call: Call, beside: Option<&Beside>, requests: usize) -> Vec<Timed> {
     let untimed = |contender: Contender| {
-        let run = contender.run(call, beside)?;
-        let times = vec![Vec::new(); requests];
-        Some(Timed { contender, run, times })
+        Some(Timed {
+            call,
+            contender,
+            run: contender.run(call, beside)?,
+            warm: vec![Vec::new(); requests],
+            cold: vec![Vec::new(); requests],
+        })
     };
     CONTENDERS.into_iter().filter_map(untimed).collect()
 }
 
-/// The columns of all contenders: in each row the mean over its requests of what is chosen of a request's times.
-pub fn columns(unit: Unit, call: Call, requests: &[OfRow], all: &[Timed], chosen: fn(&[f64]) -> f64) -> Vec<Column> {
-    let column = |timed: &Timed| Column {
-        unit,
-        call,
-        contender: timed.contender,
-        figures: rows().iter().map(|row| mean(row, requests, timed, chosen)).collect(),
-    };
-    all.iter().map(column).collect()
+/// The columns of all times.
+pub fn measure(beside: Option<&Beside>) -> Vec<Column> {
+    let requests = requests();
+    let mut calls = CALLS.map(|call| untimed(call, beside, requests.len()));
+    for i in 0..ROUNDS {
+        for all in &mut calls {
+            round(&requests, all);
+            (0..PASSES).for_each(|j| pass(&requests, all, i * PASSES + j));
+        }
+    }
+    calls
+        .iter()
+        .flatten()
+        .flat_map(|timed| timed.columns(&requests))
+        .collect()
 }
 
-/// The mean over a row's requests, if the contender answers them.
-fn mean(row: &Row, requests: &[OfRow], timed: &Timed, chosen: fn(&[f64]) -> f64) -> Option<f64> {
-    if !timed.contender.answers(row) {
-        return None;
+impl Timed {
+    /// Its columns: in each row the mean over the requests of a figure of their times.
+    fn columns(&self, requests: &[OfRow]) -> [Column; 2] {
+        let warm = |row: &Row| self.mean(row, requests, &self.warm, best);
+        let cold = |row: &Row| self.mean(row, requests, &self.cold, lower_quartile);
+        let column = |unit, figures| Column {
+            unit,
+            call: self.call,
+            contender: self.contender,
+            figures,
+        };
+        let rows = rows();
+        [
+            column(Unit::Warm, rows.iter().map(warm).collect()),
+            column(Unit::Cold, rows.iter().map(cold).collect()),
+        ]
     }
-    let of_row = requests.iter().zip(&timed.times).filter(|((other, _), _)| other == row);
-    let times: Vec<f64> = of_row.map(|(_, times)| chosen(times)).collect();
-    Some(times.iter().sum::<f64>() / times.len() as f64)
+
+    /// The mean over a row's requests, if the contender answers them.
+    fn mean(&self, row: &Row, requests: &[OfRow], times: &[Vec<f64>], figure: fn(&[f64]) -> f64) -> Option<f64> {
+        if !self.contender.answers(row) {
+            return None;
+        }
+        let of_row = requests.iter().zip(times).filter(|((other, _), _)| other == row);
+        let figures: Vec<f64> = of_row.map(|(_, times)| figure(times)).collect();
+        Some(figures.iter().sum::<f64>() / figures.len() as f64)
+    }
 }

@@ -1,6 +1,6 @@
 //! Words that several sections use.
 
-use crate::rows::Row;
+use crate::rows::Figure;
 
 /// Whether a figure is at most an aim's limit.
 pub fn verdict(is_met: bool) -> &'static str {
@@ -34,7 +34,7 @@ pub fn digits(figure: f64) -> String {
 }
 
 /// The row with the greatest of some figures.
-pub fn worst(figures: &[(Row, f64)]) -> String {
+pub fn worst(figures: &[Figure]) -> String {
     let worst = figures.iter().max_by(|a, b| a.1.total_cmp(&b.1));
     worst.map_or(String::new(), |(row, figure)| {
         format!(
@@ -48,8 +48,8 @@ pub fn worst(figures: &[(Row, f64)]) -> String {
 }
 
 /// Figures with their rows, those of a family together.
-fn by_family(figures: &[(Row, f64)]) -> Vec<(String, Vec<(Row, f64)>)> {
-    let mut families: Vec<(String, Vec<(Row, f64)>)> = Vec::new();
+fn by_family(figures: &[Figure]) -> Vec<(String, Vec<Figure>)> {
+    let mut families: Vec<(String, Vec<Figure>)> = Vec::new();
     for figure in figures {
         let name = figure.0.family();
         match families.iter_mut().find(|(other, _)| *other == name) {
@@ -61,19 +61,19 @@ fn by_family(figures: &[(Row, f64)]) -> Vec<(String, Vec<(Row, f64)>)> {
 }
 
 /// The least and the greatest of some figures.
-fn range(figures: &[(Row, f64)]) -> String {
+fn range(figures: &[Figure]) -> String {
     let least = figures.iter().map(|(_, figure)| *figure).fold(f64::INFINITY, f64::min);
     let most = figures.iter().map(|(_, figure)| *figure).fold(0.0, f64::max);
     format!("{least:.2} to {most:.2}")
 }
 
 /// The rows whose figures are above a limit, in one line: one by one, or families of which every row is.
-pub fn named(figures: &[(Row, f64)], limit: f64) -> String {
-    let is_above = |(_, figure): &(Row, f64)| limit < *figure;
-    let of_row = |(row, figure): &(Row, f64)| format!("{} {} {figure:.2}", row.size.name(), row.frames);
+pub fn named(figures: &[Figure], limit: f64) -> String {
+    let is_above = |(_, figure): &Figure| limit < *figure;
+    let of_row = |(row, figure): &Figure| format!("{} {} {figure:.2}", row.size.name(), row.frames);
     let (mut named, mut whole, mut of_whole) = (Vec::new(), Vec::new(), Vec::new());
     for (name, figures) in by_family(figures) {
-        let above: Vec<(Row, f64)> = figures.iter().copied().filter(is_above).collect();
+        let above: Vec<Figure> = figures.iter().copied().filter(is_above).collect();
         if above.len() == figures.len() {
             whole.push(name);
             of_whole.extend(above);
