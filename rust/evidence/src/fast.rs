@@ -41,7 +41,7 @@ fn needed_refusal(figures: Figures, frames: Frames) -> Checked {
     refusals::end_charge(figures.into(), frames.harvest)
 }
 
-/// Writes the plan of a request that is within reach, and counts which guess it was.
+/// Writes the plan of a request that is within reach, and counts by what it was found.
 pub fn plan_into(store: Store, frames: Frames, budgets: &mut [u32], counters: &mut Counters) {
     let Frames { harvest, least, most } = frames;
     let plain = Plain::new(store.capacity, store.start, store.end, harvest);

@@ -90,7 +90,8 @@ impl Shape {
     }
 }
 
-/// What general frames have besides their harvests: of both kinds of bounds each may be absent, and loads are at most so large.
+/// What general frames have besides their harvests: of both kinds of bounds each may be absent, and loads are at most
+/// so large.
 #[derive(Clone, Copy)]
 struct Terms {
     ceiling: Ceiling,
@@ -402,7 +403,8 @@ fn large_general_requests() {
     seen.close("large general requests");
 }
 
-/// Frames without harvest whose bounds lie each within those of the next one: every knot goes to the middle of the others.
+/// Frames without harvest whose bounds lie each within those of the next one: every knot goes to the middle of the
+/// others.
 #[test]
 fn nested_bounds_lose_no_knot() {
     let mut seen = Seen::default();
@@ -419,8 +421,8 @@ fn nested_bounds_lose_no_knot() {
     seen.close("nested bounds");
 }
 
-/// Two frames in turn in a store that takes in only what it has room for: behind every other one the curve jumps from 0 to the
-/// full store, and both its ends are to be kept.
+/// Two frames in turn in a store that takes in only what it has room for: behind every other one the curve jumps from 0
+/// to the full store, and both its ends are to be kept.
 #[test]
 fn jumps_lose_no_knot() {
     let mut seen = Seen::default();

@@ -1,4 +1,5 @@
-//! Frames as the theory has them: any inflow, ceiling, drain, least and most. How a request becomes frames is known here alone.
+//! Frames as the theory has them: any inflow, ceiling, drain, least and most. How a request becomes frames is known
+//! here alone.
 
 /// The level above every most: nothing more can be drawn than at this one.
 pub const TOP: u64 = u32::MAX as u64;

@@ -1,10 +1,11 @@
 //! Guess, certify, follow: levels are guessed, one backward pass certifies that they are the plan's, one forward pass
 //! turns them into budgets.
 //!
-//! The reserve R(l) of a level l is the least charge from which the frames left can draw l until the store is full or the
-//! end charge is met. Levels are the plan's if in every frame its level and the reserve behind it can be met, one more could
-//! not, and the level rises only where the store is empty and falls only where it is full. So a guess needs no proof.
-//! Two are made: one level for all frames, then the curve; where neither is certified, every frame's budget is searched.
+//! The reserve R(l) of a level l is the least charge from which the frames left can draw l until the store is full or
+//! the end charge is met. Levels are the plan's if in every frame its level and the reserve behind it can be met, one
+//! more could not, and the level rises only where the store is empty and falls only where it is full. So a guess needs
+//! no proof. Two are made: one level for all frames, then the curve; where neither is certified, every frame's budget
+//! is searched.
 
 pub mod certify;
 pub mod curve;

@@ -1,6 +1,6 @@
-//! The first guess: one level for all frames, at which they draw all that there is to draw: the mean, or, where frames are
-//! bounded, the mean of what the others leave. Many requests have no other level. Where the store runs dry or overflows at
-//! it in the first frames, as before a sunrise, it is not worth a certificate.
+//! The first guess: one level for all frames, at which they draw all that there is to draw: the mean, or, where frames
+//! are bounded, the mean of what the others leave. Many requests have no other level. Where the store runs dry or
+//! overflows at it in the first frames, as before a sunrise, it is not worth a certificate.
 
 use super::frame::Frames;
 

@@ -1,4 +1,5 @@
-//! The fallback: every frame's budget by bisection, each trial one scan from the left. Plain and slow, and never needed so far.
+//! The fallback: every frame's budget by bisection, each trial one scan from the left. Plain and slow, and never needed
+//! so far.
 
 use super::frame::Frames;
 
@@ -20,7 +21,8 @@ fn goes(frames: &impl Frames, from: usize, charge: u64, level: u64) -> bool {
     frames.end() <= charge
 }
 
-/// The greatest budget that leaves the reserve of one level below it, of what a frame before `next` has; its least if none does.
+/// The greatest budget that leaves the reserve of one level below it, of what a frame before `next` has; its least if
+/// none does.
 fn greatest(frames: &impl Frames, next: usize, have: u64, least: u64, most: u64) -> u64 {
     let mut good = least;
     let mut top = most.min(have).max(least);

@@ -1,9 +1,10 @@
-//! The curve, and its two ends moved outward over levels at which it stays the same, or inward over those that are cut off.
+//! The curve, and its two ends moved outward over levels at which it stays the same, or inward over those that are cut
+//! off.
 
 use super::knots::{Knot, Knots};
 
-/// An end of the curve: its level, what is reserved or needed there, and by how much that grows for a level between it and
-/// the next knot, modulo 2^32.
+/// An end of the curve: its level, what is reserved or needed there, and by how much that grows for a level between it
+/// and the next knot, modulo 2^32.
 #[derive(Clone, Copy)]
 pub struct End {
     pub level: u64,
@@ -29,10 +30,10 @@ impl End {
     }
 }
 
-/// The curve is 0 below its low end and `full` above its high one. Its knots are at levels from one end to the other, both
-/// included. Where no level is between, the high end's is just below the low one's, and neither the knots nor what else the
-/// ends have say anything. Level 0 is never counted and taken for one below the low end: no level is lower, so nobody asks
-/// for the reserve there. No level is above the roof.
+/// The curve is 0 below its low end and `full` above its high one. Its knots are at levels from one end to the other,
+/// both included. Where no level is between, the high end's is just below the low one's, and neither the knots nor what
+/// else the ends have say anything. Level 0 is never counted and taken for one below the low end: no level is lower, so
+/// nobody asks for the reserve there. No level is above the roof.
 pub struct Curve<'a> {
     pub roof: u64,
     pub full: u64,
@@ -83,7 +84,8 @@ impl<'a> Curve<'a> {
         self.low.level - 1
     }
 
-    /// Keeps by knots where it leaves 0, in one level, and where it goes on from there; gives its growth above a lower level.
+    /// Keeps by knots where it leaves 0, in one level, and where it goes on from there; gives its growth above a lower
+    /// level.
     #[inline(always)]
     fn keep_low(&mut self, level: u64) -> u32 {
         let start = self.low.height as u32;
@@ -111,7 +113,8 @@ impl<'a> Curve<'a> {
         self.low = End { level, height: 0, step };
     }
 
-    /// Keeps by knots up to where it goes, and where it becomes full, in one level; gives its growth below a higher level.
+    /// Keeps by knots up to where it goes, and where it becomes full, in one level; gives its growth below a higher
+    /// level.
     #[inline(always)]
     fn keep_high(&mut self, level: u64) -> u32 {
         let rest = self.full.wrapping_sub(self.high.height) as u32;
@@ -143,8 +146,8 @@ impl<'a> Curve<'a> {
         };
     }
 
-    /// Begins it behind the last level that needs no more than there is. At a level as much as the height is left, and up to
-    /// knot i, or to the last level where there is none, the need grows by the step.
+    /// Begins it behind the last level that needs no more than there is. At a level as much as the height is left, and
+    /// up to knot i, or to the last level where there is none, the need grows by the step.
     #[inline(always)]
     fn begin(&mut self, i: usize, at: End) {
         let left = at.height as u32;
@@ -183,9 +186,9 @@ impl<'a> Curve<'a> {
         self.low.level = self.high.level + 1;
     }
 
-    /// Ends it at the last level that needs less than the ceiling, at which `full` would be reserved. At a level the need is
-    /// by the height above the ceiling, and down to knot i - 1, or to the first level where there is none, it falls by the
-    /// step.
+    /// Ends it at the last level that needs less than the ceiling, at which `full` would be reserved. At a level the
+    /// need is by the height above the ceiling, and down to knot i - 1, or to the first level where there is none, it
+    /// falls by the step.
     #[inline(always)]
     fn finish(&mut self, i: usize, at: End, full: u64) {
         let above = at.height as u32;
@@ -197,7 +200,8 @@ impl<'a> Curve<'a> {
         self.knots.end = i;
     }
 
-    /// Leaves out the levels that need the ceiling, at which `full` would be reserved; its last level needs `excess` more.
+    /// Leaves out the levels that need the ceiling, at which `full` would be reserved; its last level needs `excess`
+    /// more.
     #[inline(always)]
     pub fn narrow_high(&mut self, excess: u64, full: u64) {
         let mut at = End {

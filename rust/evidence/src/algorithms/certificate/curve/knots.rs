@@ -1,8 +1,9 @@
 //! Knots: levels at which the growth of a curve changes. They stand in rising order in a part of a list that grows and
 //! shrinks at both ends; where an end of the list is reached, knots are lost, and the guess may be wrong then.
 
-/// How many places there are for each frame: the knots begin in the middle of the list and grow by at most two a frame at
-/// either end.
+/// How many places there are for each frame: two at either side of the middle, where the knots begin. A frame bends the
+/// curve twice, by one each time, and an end that was cut off comes back with no more knots than there were bends
+/// beyond it.
 const PLACES: usize = 4;
 
 /// A level, and the change of the growth there, modulo 2^32.
@@ -109,7 +110,8 @@ impl Knots {
         }
     }
 
-    /// Puts a knot before all that are not below it; the others go down by one place, four at a time as long as four do.
+    /// Puts a knot before all that are not below it; the others go down by one place, four at a time as long as four
+    /// do.
     #[inline(always)]
     fn insert_from_first(&mut self, knot: Knot) {
         let Knots { list, first, end, .. } = self;

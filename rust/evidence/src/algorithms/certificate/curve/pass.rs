@@ -3,8 +3,8 @@
 use super::ends::Curve;
 use super::knots::Knot;
 
-/// A frame that the curve passes: what it has even after an empty store, which is never above its ceiling, and its bounds.
-/// Where it has no upper end, its most is above every level.
+/// A frame that the curve passes: what it has even after an empty store, which is never above its ceiling, and its
+/// bounds. Where it has no upper end, its most is above every level.
 #[derive(Clone, Copy)]
 pub struct Passed {
     pub has: u64,
