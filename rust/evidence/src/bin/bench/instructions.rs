@@ -17,7 +17,7 @@ pub fn play(call: Call, beside: Option<&Beside>) {
     let build = beside.map_or(Contender::Library, |_| Contender::Beside);
     let mut run = build.run(call, beside).expect("a build of the library");
     for row in rows() {
-        row.requests(COUNTED).iter().for_each(|request| run(request));
+        row.requests(COUNTED).iter().for_each(&mut run);
     }
 }
 
