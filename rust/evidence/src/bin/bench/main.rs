@@ -74,16 +74,16 @@ fn machine() -> String {
         .to_string()
 }
 
-/// The mean number of running processes in the last minute, this one included, if the system tells it.
+/// The mean number of running processes in the last minute, if the system tells it.
 fn load() -> String {
     let text = std::fs::read_to_string("/proc/loadavg").unwrap_or_default();
     text.split(' ').next().unwrap_or_default().to_string()
 }
 
-/// The line above every table.
-fn heading() -> String {
-    let (most, seed, machine, load) = (rows::MOST, seed(), machine(), load());
-    format!("largest harvest {most}; seed {seed}; machine: {machine}; load {load}")
+/// The line above every table, with the load before the run and after it.
+fn heading(before: &str) -> String {
+    let (most, seed, machine, after) = (rows::MOST, seed(), machine(), load());
+    format!("largest harvest {most}; seed {seed}; machine: {machine}; load {before} before and {after} after")
 }
 
 /// What some columns tell.
@@ -128,14 +128,15 @@ fn summary(measured: &Measured, searched: &Searched) -> String {
 
 /// Everything, with the whole table in a file if one is named.
 fn run_all(beside: Option<&Beside>, table: Option<&Path>) -> Result<(), String> {
+    let before = load();
     let mut columns = instructions::count(beside).unwrap_or_else(|reason| {
         println!("{reason}");
         Vec::new()
     });
-    columns.extend(time::measure(beside));
+    let (times, searched) = time::measure(beside);
+    columns.extend(times);
     let measured = measured(columns, beside);
-    let searched = Searched::measure(&measured.rows);
-    let heading = heading();
+    let heading = heading(&before);
     print!("{heading}\n\n{}", summary(&measured, &searched));
     if let Some(path) = table {
         let text = format!("{TITLE}\n\n{heading}\n\n{}", table::whole(&measured, Some(&searched)));

@@ -2,17 +2,14 @@
 //! before it, which take as long as a plan, are not in it.
 
 use crate::contenders::black_box;
-use crate::rows::{Figure, Request, Row};
+use crate::rows::{rows, Figure, Request, Row};
 use crate::words::{digits, with_or_without, worst};
 use evidence::algorithms::certificate::frame::{Bounded, Plain};
 use evidence::algorithms::certificate::search::search;
 use evidence::families::FRAMES;
 use std::time::Instant;
 
-/// How often a search is timed; the best counts.
-const ROUNDS: usize = 3;
-
-/// Microseconds of the search in all rows.
+/// Microseconds of the search in the first request of each row: the best of the rounds.
 pub struct Searched(Vec<Figure>);
 
 /// Searches all budgets of a request.
@@ -37,20 +34,23 @@ fn search_all(request: &Request, is_bounded: bool, budgets: &mut [u32]) {
 fn micros(row: &Row) -> f64 {
     let request = &row.requests(1)[0];
     let mut budgets = vec![0; row.frames];
-    let mut best = f64::INFINITY;
-    for _ in 0..ROUNDS {
-        let begin = Instant::now();
-        search_all(request, row.bounded, &mut budgets);
-        black_box(&budgets);
-        best = best.min(begin.elapsed().as_secs_f64() * 1e6);
-    }
-    best
+    let begin = Instant::now();
+    search_all(request, row.bounded, &mut budgets);
+    black_box(&budgets);
+    begin.elapsed().as_secs_f64() * 1e6
 }
 
 impl Searched {
-    /// Searches in all rows.
-    pub fn measure(rows: &[Row]) -> Searched {
-        Searched(rows.iter().map(|row| (*row, micros(row))).collect())
+    /// Nothing timed.
+    pub fn untimed() -> Searched {
+        Searched(rows().into_iter().map(|row| (row, f64::INFINITY)).collect())
+    }
+
+    /// One round.
+    pub fn round(&mut self) {
+        for (row, best) in &mut self.0 {
+            *best = best.min(micros(row));
+        }
     }
 
     /// Microseconds of the search in a row.

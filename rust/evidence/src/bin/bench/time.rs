@@ -1,11 +1,12 @@
-//! What is timed: every request of every row, by every contender, warm and cold. All of it in turns, so that what
-//! disturbs the machine for a while disturbs all of it, and none of it in every round.
+//! What is timed: every request of every row, by every contender, warm and cold, and the search. All of it in turns, so
+//! that what disturbs the machine for a while disturbs all of it, and none of it in every round.
 
 use crate::beside::Beside;
 use crate::cold::{lower_quartile, pass};
 use crate::contenders::{Call, Contender, Run, CALLS, CONTENDERS};
 use crate::measured::{Column, Unit};
 use crate::rows::{rows, Request, Row, TIMED};
+use crate::search::Searched;
 use crate::warm::{best, round};
 
 /// How often each request is timed warm, and how often cold for each of these times.
@@ -44,21 +45,20 @@ fn untimed(call: Call, beside: Option<&Beside>, requests: usize) -> Vec<Timed> {
     CONTENDERS.into_iter().filter_map(untimed).collect()
 }
 
-/// The columns of all times.
-pub fn measure(beside: Option<&Beside>) -> Vec<Column> {
+/// The columns of all times, and those of the search.
+pub fn measure(beside: Option<&Beside>) -> (Vec<Column>, Searched) {
     let requests = requests();
+    let mut searched = Searched::untimed();
     let mut calls = CALLS.map(|call| untimed(call, beside, requests.len()));
     for i in 0..ROUNDS {
         for all in &mut calls {
             round(&requests, all);
             (0..PASSES).for_each(|j| pass(&requests, all, i * PASSES + j));
         }
+        searched.round();
     }
-    calls
-        .iter()
-        .flatten()
-        .flat_map(|timed| timed.columns(&requests))
-        .collect()
+    let timed = calls.iter().flatten();
+    (timed.flat_map(|timed| timed.columns(&requests)).collect(), searched)
 }
 
 impl Timed {
