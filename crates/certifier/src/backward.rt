@@ -27,17 +27,17 @@ fn past(end: u64) -> Weight
 fn turn(level: u64, w: Weight) -> Option<Turned>
     ensures { IfSome result (λ t. TurnedAt level w t.low t.high) }
 {
-    if level < w.level {
-        return (w.low == 0).then_some(Turned { low: 0, high: 0 });
-    }
-    if w.level < level {
-        return (w.gap <= w.high).then_some(Turned {
-            low: w.high,
+    if level == w.level {
+        return Some(Turned {
+            low: w.low,
             high: w.high,
         });
     }
-    Some(Turned {
-        low: w.low,
+    if level < w.level {
+        return (w.low == 0).then_some(Turned { low: 0, high: 0 });
+    }
+    (w.gap <= w.high).then_some(Turned {
+        low: w.high,
         high: w.high,
     })
 }
@@ -52,24 +52,11 @@ fn need_of(f: At, level: u64, reserve: u64) -> u64
     f.drain + f.draw(level) + reserve
 }
 
-// The charge before a frame from which it has what it needs, or is full.
-fn before(gap: u64, inflow: u64, need: u64) -> u64
-    ensures { result ≡ min gap (need - inflow) }
-{
-    gap.min(need.saturating_sub(inflow))
-}
+// The highest level, at which every frame draws its most.
+const TOP: u64 = u32::MAX as u64;
 
-// Whether one level more needs less than a frame has for sure; no level is above the highest.
-fn short(level: u64, more: u64, room: u64) -> bool
-    ensures { result ≡ false → level + 1 < 2 ^ 32 → room ≤ more }
-{
-    if u64::from(u32::MAX) <= level {
-        return false;
-    }
-    more < room
-}
-
-// Puts a frame at this level before what follows it.
+// Puts a frame at this level before what follows it. The frame can hold what the level needs, and what it has for sure is
+// not above the need of one level more, which the highest level has not.
 fn weigh(f: At, level: u64, w: Weight) -> Option<Weight>
     requires { level < 2 ^ 32 }
     ensures { IfSome result (λ v. WeighedAt f level w v) }
@@ -79,16 +66,18 @@ fn weigh(f: At, level: u64, w: Weight) -> Option<Weight>
     if f.ceiling < need {
         return None;
     }
-    let more = need_of(f, level + 1, t.high);
-    if short(level, more, f.ceiling.min(f.inflow)) {
-        return None;
-    }
-    let free = f.gap();
+    let room = f.ceiling.min(f.inflow);
+    let gap = f.ceiling - room;
+    let high = match need_of(f, level + 1, t.high).checked_sub(room) {
+        Some(beyond) => gap.min(beyond),
+        None if level == TOP => 0,
+        None => return None,
+    };
     Some(Weight {
         level,
-        low: before(free, f.inflow, need),
-        high: before(free, f.inflow, more),
-        gap: free,
+        low: need.saturating_sub(f.inflow),
+        high,
+        gap,
         after: t.low,
         above: t.high,
     })
@@ -98,13 +87,7 @@ fn weigh(f: At, level: u64, w: Weight) -> Option<Weight>
 fn starts(start: u64, w: Weight) -> bool
     ensures { result ≡ true → StartsAt start w }
 {
-    if start < w.low {
-        return false;
-    }
-    if short(w.level, w.high, start.min(w.gap)) {
-        return false;
-    }
-    true
+    w.low <= start && (start.min(w.gap) <= w.high || w.level == TOP)
 }
 
 // Whether the levels are certified; then `after` holds what each reserves after its frame. Frames and lists come from

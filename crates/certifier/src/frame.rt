@@ -29,26 +29,12 @@ pub fn draw(least: u64, most: u64, level: u64) -> u64
     least.max(most.min(level))
 }
 
-// What the store of a frame with this ceiling and inflow can take over, of any numbers for the same reason.
-pub fn gap(ceiling: u64, inflow: u64) -> u64
-    ensures { result ≡ ceiling - inflow }
-{
-    ceiling.saturating_sub(inflow)
-}
-
 impl At {
     // What the frame takes at a level.
     pub fn draw(self, level: u64) -> u64
         ensures { result ≡ drawn self.least self.most level }
     {
         draw(self.least, self.most, level)
-    }
-
-    // The charge before the frame from which its store is full: what it can take over.
-    pub fn gap(self) -> u64
-        ensures { result ≡ self.ceiling - self.inflow }
-    {
-        gap(self.ceiling, self.inflow)
     }
 
     // What the frame has beyond its drain, from a charge.

@@ -41,9 +41,11 @@ impl<'a> Frames<'a> {
         ensures { ReadIn self.entry i result }
     {
         let inflow = self.lists.harvest[i] as u64;
+        // a capacity of 32 bits, so that a compiler knows the ceiling to be no lower than the inflow
+        let capacity = self.rule.capacity as u32;
         At {
             inflow,
-            ceiling: self.rule.capacity + inflow,
+            ceiling: capacity as u64 + inflow,
             drain: 0,
             least: self.lists.least[i] as u64,
             most: most_of(self.rule.energy, self.lists.most[i]),
@@ -57,7 +59,8 @@ fn most_of(energy: u64, most: u32) -> u64
     ensures { (result ≡ most_of energy (bounds 0 most)) × (result < 2 ^ 32) }
 {
     if most == NO_UPPER_END {
-        return energy;
+        energy as u32 as u64
+    } else {
+        most as u64
     }
-    most as u64
 }

@@ -19,6 +19,6 @@ mod weight;
 
 pub use bits::low_bits;
 pub use draft::Draft;
-pub use frame::{At, Rule, draw, gap};
+pub use frame::{At, Rule, draw};
 pub use frames::Frames;
 pub use requirement::peak_requirement;

@@ -33,8 +33,8 @@ impl End {
 }
 
 // The curve is 0 below its low end and `full` above its high one. Its knots are at levels from one end to the other,
-// both included. Where no level is between, the high end's is just below the low one's, there is no knot, and all else
-// that the ends have says nothing. Level 0 is never counted and taken for one below the low end: no level is lower, so
+// both included. Where no level is between, the high end's is just below the low one's, and neither the knots nor what
+// else the ends have say anything. Level 0 is never counted and taken for one below the low end: no level is lower, so
 // nobody asks for the reserve there. No level is above the roof.
 //
 // What is done at the two ends is no pair of twins: at the low one levels are counted up from a reserve of 0, at the
@@ -77,7 +77,6 @@ impl<'a> Curve<'a> {
     pub fn vanish(&mut self) {
         self.low.level = self.roof.wrapping_add(1);
         self.high.level = self.roof;
-        self.knots.clear();
     }
 
     // Whether no level lies between its ends.
@@ -107,6 +106,7 @@ impl<'a> Curve<'a> {
     // Counts it from a lower level on.
     pub fn widen_low(&mut self, level: u64) {
         let step = if self.is_empty() {
+            self.knots.clear();
             self.high.height = 0;
             self.high.step = 0;
             0
@@ -137,6 +137,7 @@ impl<'a> Curve<'a> {
     // Counts it up to a higher level.
     pub fn widen_high(&mut self, level: u64) {
         let step = if self.is_empty() {
+            self.knots.clear();
             self.low.height = self.full;
             self.low.step = 0;
             0
@@ -191,7 +192,6 @@ impl<'a> Curve<'a> {
             return;
         }
         self.low.level = self.high.level.wrapping_add(1);
-        self.knots.clear();
     }
 
     // Ends it at the last level that needs less than the ceiling, at which `full` would be reserved. At a level the
@@ -237,6 +237,5 @@ impl<'a> Curve<'a> {
             return;
         }
         self.high.level = self.last_empty();
-        self.knots.clear();
     }
 }

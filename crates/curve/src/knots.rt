@@ -1,12 +1,10 @@
 // Knots: levels at which the growth of a curve changes. They stand in rising order in a part of a list that grows and
-// shrinks at both ends; where an end of the list is reached, knots are lost, and the guess may be wrong then.
+// shrinks at both ends. Where they begin around the middle, four places for each frame suffice: a frame bends the curve
+// twice, by one each time, and an end that was cut off comes back with no more knots than there were bends beyond it. Were
+// an end of the list reached, a knot would be lost, and the guess could be wrong.
 ghost use Rattle.std.specs.Prelude.{◌≡◌, ◌+◌, ◌<◌, ◌≤◌, length};
 
 use certifier::low_bits;
-use model::limits::MAX_FRAMES;
-
-// How many moves of knots there may be: 128 for each frame of the most that a request has.
-const MOVES: usize = 128 * MAX_FRAMES;
 
 // A level, of which the low 32 bits count, and the change of the growth there, modulo 2^32.
 #[derive(Clone, Copy, Default)]
@@ -40,14 +38,13 @@ impl Knot {
     }
 }
 
-// The knots are list[first..end]; for new ones between them others were moved so often. The list is lent and its ends
-// stand beside it, since memory is fixed: there is no heap for a deque.
+// The knots are list[first..end]. The list is lent and its ends stand beside it, since memory is fixed: there is no heap
+// for a deque.
 #[derive(Drop)]
 pub struct Knots<'a> {
     pub list: &'a mut [Knot],
     pub first: usize,
     pub end: usize,
-    moves: usize,
     ghost inside: { (first ≤ end) × (end ≤ length list.now) },
 }
 
@@ -59,13 +56,13 @@ impl<'a> Knots<'a> {
             list,
             first: middle,
             end: middle,
-            moves: 0,
         }
     }
 
-    // Leaves no knot.
+    // Leaves no knot; new ones are to stand around the middle again.
     pub fn clear(&mut self) {
-        self.first = self.end;
+        self.first = self.list.len() / 2;
+        self.end = self.first;
     }
 
     // Puts a knot before all others, if it bends anything.
@@ -84,15 +81,9 @@ impl<'a> Knots<'a> {
         }
     }
 
-    // Whether knots were moved too often, so that some were left out.
-    pub fn are_given_up(&self) -> bool {
-        MOVES <= self.moves
-    }
-
-    // Puts a knot among the others, from the nearer end; none where an end of the list is reached, or knots were moved
-    // too often.
+    // Puts a knot among the others, from the nearer end; none where an end of the list is reached.
     pub fn insert(&mut self, knot: Knot) {
-        if self.are_given_up() || self.first == 0 || self.end == self.list.len() {
+        if self.first == 0 || self.end == self.list.len() {
             return;
         }
         let middle = self.first + (self.end - self.first) / 2;
@@ -127,7 +118,6 @@ impl<'a> Knots<'a> {
             gap = i;
         }
         self.list[gap] = knot;
-        self.moves = self.moves.wrapping_add(gap + 1 - self.first);
         self.first -= 1;
     }
 
@@ -149,7 +139,6 @@ impl<'a> Knots<'a> {
             gap = i;
         }
         self.list[gap] = knot;
-        self.moves = self.moves.wrapping_add(self.end - gap);
         self.end += 1;
     }
 

@@ -8,8 +8,7 @@
 // one, and where it is full from a lower one on, it falls to just below that. So a pass from the front finds all
 // levels.
 //
-// Most knots are written and met near an end of the curve. Where many lie between, a new one has many others moved;
-// there is an allowance for that, and where it is used up, no more are put in and the guess is given up.
+// Most knots are written and met near an end of the curve. Where many lie between, a new one has up to half of them moved.
 ghost use Rattle.std.specs.Prelude.{◌≡◌, ◌<◌, ◌≤◌, length};
 ghost use Rattle.certifier.specs.Says.{frame_count};
 
@@ -38,14 +37,8 @@ fn roof_of(frames: Frames) -> u64 {
 }
 
 // Draws the curve from behind, and writes for each frame the last level at which the reserve before it is 0, and the
-// last at which it is not full. Says whether the allowance sufficed.
-fn draw_curve(
-    frames: Frames,
-    start: u64,
-    lows: &mut [u32],
-    highs: &mut [u32],
-    knots: &mut [Knot],
-) -> bool
+// last at which it is not full.
+fn draw_curve(frames: Frames, start: u64, lows: &mut [u32], highs: &mut [u32], knots: &mut [Knot])
     requires { (0 < frame_count frames) ×
         (frame_count frames ≤ length lows.old) × (frame_count frames ≤ length highs.old) }
 {
@@ -73,7 +66,6 @@ fn draw_curve(
         lows[0] = low_bits(curve.last_empty());
         highs[0] = lows[0];
     }
-    !curve.knots.are_given_up()
 }
 
 // Writes the levels over the lowest ones: each is the level before it, or the nearest between its two. A level at the
@@ -86,24 +78,21 @@ fn choose(roof: u32, lows: &mut [u32], highs: &[u32]) {
     }
 }
 
-// Writes the levels at which the curve leaves 0 or becomes full where the levels turn. Says whether it was not
-// given up; `highs` and `knots` are scratch. They are three lists, since memory is fixed: the levels stand in the list
-// that becomes the budgets, and the other two are lent by whoever has room, also to other guesses.
+// Writes the levels at which the curve leaves 0 or becomes full where the levels turn; `highs` and `knots` are scratch.
+// They are three lists, since memory is fixed: the levels stand in the list that becomes the budgets, and the other two are
+// lent by whoever has room.
 pub fn curve_levels(
     frames: Frames,
     start: u64,
     levels: &mut [u32],
     highs: &mut [u32],
     knots: &mut [Knot],
-) -> bool {
+) {
     let count = frames.count();
     if count == 0 || levels.len() < count || highs.len() < count {
-        return false;
+        return;
     }
-    let is_drawn = draw_curve(frames, start, levels, highs, knots);
-    if is_drawn {
-        let roof = u32::try_from(roof_of(frames)).unwrap_or(u32::MAX);
-        choose(roof, &mut levels[..count], &highs[..count]);
-    }
-    is_drawn
+    draw_curve(frames, start, levels, highs, knots);
+    let roof = u32::try_from(roof_of(frames)).unwrap_or(u32::MAX);
+    choose(roof, &mut levels[..count], &highs[..count]);
 }

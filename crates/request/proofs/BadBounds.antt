@@ -6,14 +6,15 @@ use Prim.Native.Nat.{ℕ, zero, suc, ◌≤◌, ◌<◌}
 use native.Mathlib.Omega.{arith}
 use lib.Dec.{ltb, eqb}
 use lib.ListN.{length, get_or}
-use borrow.Author.Tests.{ltb-false, eqb-true}
+use borrow.Author.Tests.{ltb-false, eqb-true, not-true}
 use Rattle.std.proofs.Common.{Option, map}
-use Rattle.std.specs.List.{position_from, zip}
+use Rattle.std.specs.List.{fold, position_from, zip}
 use Rattle.model.specs.Refusals.{Refusal}
 use Rattle.model.specs.Limits.{max_bound, no_upper_end}
 use Rattle.model.specs.Request.{Bounds, absent, bounds, bounds_of}
 use Rattle.model.specs.Refusals.{refusal, none, is_none, bad_bounds, bounds_refused}
 use Rattle.request.proofs.Place.{at_place, by_place}
+use Rattle.request.proofs.Look.{look, by_look}
 
 -- a frame's bounds that are not bad
 pub record BoundsFit (l m : ℕ) : Type 0 where
@@ -84,6 +85,14 @@ bad_place k ls ms p q =
     (λ j x xs e. by_test j (bounds_pair x) (map bounds_pair xs) false (sym e))
     k (zip ls ms) p q
     ∙ ap (bounds_refused k) (bounds_zip ls ms)
+
+-- a look at all shows that there is none
+pub bad_looked : (ls ms : List ℕ) → fold (look (λ p. not (bad_pair p))) true (zip ls ms) ≡ true → (k : ℕ) →
+    bounds_refused k (bounds_of ls ms) ≡ none
+bad_looked ls ms e k =
+    ap (bounds_refused k) (sym (bounds_zip ls ms))
+    ∙ by_look (λ p. not (bad_pair p)) (λ (j : ℕ) (ps : List (ℕ × ℕ)). bounds_refused j (map bounds_pair ps)) (λ j. refl)
+    (λ j x xs g. by_test j (bounds_pair x) (map bounds_pair xs) false (sym (not-true (bad_pair x) g))) true (zip ls ms) e k
 
 -- where refusal 10 does not hold, it is none
 pub bounds_none : (k : ℕ) (ws : List Bounds) → is_none (bounds_refused k ws) ≡ true → bounds_refused k ws ≡ none

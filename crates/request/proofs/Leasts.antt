@@ -1,24 +1,25 @@
 -- Refusal 11 one frame at a time: leasts that refusal 10 lets pass are within the bounds, so that they are feasible where
 -- Definition 1 lets them be drawn.
-use mathlib.Core.Path.{◌≡◌, refl, sym, ap}
+use mathlib.Core.Path.{◌≡◌, refl, sym, ap, ◌∙◌}
 use mathlib.Core.Bool.{Bool, true, false, not, ◌&&◌, ◌||◌, false≢true}
 use mathlib.Core.List.{List, [], ◌∷◌}
 use Prim.Native.Nat.{ℕ, suc, ◌≤◌}
 use native.Mathlib.Omega.{arith}
 use lib.Dec.{eqb}
-use lib.ListN.{length}
+use lib.ListN.{length, replicate}
 use borrow.Author.Tests.{le-leb}
 use Rattle.model.specs.Refusals.{Refusal}
 use Rattle.model.specs.declared.Figures.{Figures}
 use Rattle.model.specs.Limits.{no_upper_end}
-use Rattle.model.specs.Request.{Bounds, Request, bounds, bounds_of, bounded_request, leasts_from, leasts, with_capacity}
+use Rattle.model.specs.Request.{Bounds, Request, request, bounds, bounds_of, bounded_request, leasts_from, leasts, with_capacity}
 use Rattle.model.specs.Request.{most_energy}
 use Rattle.model.specs.Charge.{feasible_from, within_bounds, all_within, feasible}
-use Rattle.model.specs.Refusals.{refusal, is_none, refuse_if, first_of, bad_bounds, bounds_refused, out_of_reach}
+use Rattle.model.specs.Refusals.{refusal, none, is_none, refuse_if, first_of, bad_bounds, bounds_refused, out_of_reach}
 use Rattle.model.specs.Refusals.{leasts_refused, leasts_refused_unlimited}
-use Rattle.model.proofs.Reach.{unlimited_storage}
+use Rattle.model.proofs.Reach.{unlimited_storage, zeros_feasible}
 use Rattle.request.specs.Reach.{unreachable_by}
 use Rattle.request.proofs.BadBounds.{BoundsFit, bounds_fit}
+use Rattle.request.proofs.Harvest.{reach_within}
 
 -- ---- the leasts within the bounds
 
@@ -69,6 +70,16 @@ pub unreachable_is : (f : Figures) (hs ls ms : List ℕ) → length ls ≡ lengt
 unreachable_is f hs ls ms p q a =
     let r = bounded_request f hs ls ms in
     ap (λ (t : Bool). first_of (out_of_reach r ∷ refuse_if (not t) 11 ∷ [])) (sym (leasts_drawn f hs ls ms p q a))
+
+-- which holds of no request without leasts whose end charge is in reach and fits the store
+pub no_leasts : (f : Figures) (hs ls : List ℕ) → length ls ≡ length hs → f.end ≤ f.capacity →
+    ls ≡ replicate (length ls) 0 → is_none (out_of_reach (request f hs)) ≡ true → none ≡ first_of (unreachable_by f hs ls)
+no_leasts f hs ls p q z e =
+    let zeros : ls ≡ replicate (length hs) 0 = z ∙ ap (λ (n : ℕ). replicate n 0) p in
+    let feasible : feasible_from f.capacity f.end f.start hs ls ≡ true =
+    ap (feasible_from f.capacity f.end f.start hs) zeros
+    ∙ zeros_feasible f.capacity f.end f.start hs q (reach_within (request f hs) e) in
+    rw (e, feasible) refl
 
 -- and with a store for all there is it is 11 without limit
 pub eleven_open : (r : Request) (c : ℕ) → most_energy r ≤ c → leasts_refused (with_capacity r c) ≡ leasts_refused_unlimited r

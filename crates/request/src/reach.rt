@@ -3,7 +3,7 @@
 // struct of them would be no part of `Request`, and be made of its parts at each call.
 // That two lists are of one length stays a clause of the two functions that look at leasts and harvests: a `Whole` would
 // ask for mosts too.
-ghost use Rattle.std.specs.Prelude.{◌≡◌, ◌+◌, ◌*◌, ◌≤◌, length};
+ghost use Rattle.std.specs.Prelude.{◌≡◌, true, ◌+◌, ◌*◌, ◌≤◌, length, replicate};
 ghost use Rattle.model.specs.Answer.{refused, asked};
 ghost use Rattle.model.specs.Limits.{max_capacity, max_frames, max_harvest};
 ghost use Rattle.model.specs.Request.{request};
@@ -48,6 +48,13 @@ fn leasts_drawable(figures: Figures, harvest: &[u32], least: &[u32]) -> bool
     figures.end <= charge
 }
 
+// Whether no frame has a least: a look at all of them, as at the harvests.
+fn none_has_least(least: &[u32]) -> bool
+    ensures { result ≡ true → least.now ≡ replicate (length least.now) 0 }
+{
+    least.iter().fold(true, |none, l| none & (*l == 0))
+}
+
 // A store that no charge exceeds: all there is.
 pub fn open_store(start: u32, all: u64) -> u32
     requires { (start ≤ max_capacity) × (all ≤ max_harvest * max_frames) }
@@ -56,12 +63,16 @@ pub fn open_store(start: u32, all: u64) -> u32
     (start as u64 + all) as u32
 }
 
-// Refusals 9 and 11 where the leasts are within the bounds: 11 is whether they can be drawn.
+// Refusals 9 and 11 where the leasts are within the bounds: 11 is whether they can be drawn. Where there are none, the end
+// charge is all there is to reach, and 9 says whether it is.
 pub fn check_reachable(figures: Figures, harvest: &[u32], least: &[u32]) -> Result<(), Refusal>
     requires { length least.now ≡ length harvest.now }
     ensures { refused result ≡ first_of (unreachable_by figures harvest.now least.now) }
 {
     check_reach(figures, harvest)?;
+    if figures.end <= figures.capacity && none_has_least(least) {
+        return Ok(());
+    }
     check_that(
         leasts_drawable(figures, harvest, least),
         Refusal::LeastsOutOfReach,
