@@ -16,7 +16,9 @@ step() {
     chmod +x "$folder/$1"
 }
 step tools/install install
-step kit/rt prove
+step tools/library prove
+printf '#!/bin/sh\n' >"$folder/kit/rt"
+chmod +x "$folder/kit/rt"
 step rust/cargo build
 # the stand-in for cargo makes the program, unless it is to go elsewhere
 printf '! grep -qx elsewhere "%s/fails" || exit 0\n' "$folder" >>"$folder/rust/cargo"

@@ -20,7 +20,7 @@ c_program() { # a C file and the program to make of it
 }
 
 if [ -d crates/energy ] && [ -z "${ENERGY_LIB_DIR:-}" ]; then
-    (cd crates/energy && rt lib)
+    tools/library
     verdict $? 'static library'
 fi
 

@@ -90,7 +90,7 @@ for path in FILES:
         flat = " ".join(head.split())
         if re.search(r"\bharvest: ", flat) and re.search(r"\bleast: ", flat) and re.search(r"\bmost: ", flat):
             note(5, "signatures with a harvest, a least and a most", path, line, flat)
-        if re.search(r"out: &mut \[u8\], at: usize|file: &\[u8\], i: usize|bytes: &\[u8\], i: usize|first: usize, (chain_)?end: usize", flat):
+        if re.search(r"out: &mut \[u8\], at: usize|file: &\[u8\], i: usize|bytes: &\[u8\], i: usize|first: usize, end: usize", flat):
             note(6, "signatures with a list and a place in it", path, line, flat)
         if "&mut" in flat and re.search(r"-> bool\b", flat):
             note(1, "functions that write to a list and say true or false", path, line, flat)

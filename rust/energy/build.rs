@@ -1,4 +1,4 @@
-//! Links `libenergy.a`, which `rt lib` in crates/energy makes in its folder out/; ENERGY_LIB_DIR names another folder.
+//! Links `libenergy.a`, which tools/library makes in the folder out/ of crates/energy; ENERGY_LIB_DIR names another folder.
 
 use std::env;
 use std::path::PathBuf;
@@ -14,7 +14,7 @@ fn main() {
     println!("cargo:rerun-if-changed={}", archive.display());
     assert!(
         archive.is_file(),
-        "there is no {}: make it by `rt lib` in crates/energy, or name its folder in ENERGY_LIB_DIR",
+        "there is no {}: make it by tools/library, or name its folder in ENERGY_LIB_DIR",
         archive.display()
     );
     println!("cargo:rustc-link-search=native={}", directory.display());

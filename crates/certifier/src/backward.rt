@@ -55,8 +55,8 @@ fn need_of(f: At, level: u64, reserve: u64) -> u64
 // The highest level, at which every frame draws its most.
 const TOP: u64 = u32::MAX as u64;
 
-// Puts a frame at this level before what follows it. The frame can hold what the level needs, and what it has for sure is
-// not above the need of one level more, which the highest level has not.
+// Puts a frame at this level before what follows it. The frame can hold what the level needs, and what it has for sure
+// is not above the need of one level more; above the highest there is none.
 fn weigh(f: At, level: u64, w: Weight) -> Option<Weight>
     requires { level < 2 ^ 32 }
     ensures { IfSome result (λ v. WeighedAt f level w v) }

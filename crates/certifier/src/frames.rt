@@ -41,7 +41,7 @@ impl<'a> Frames<'a> {
         ensures { ReadIn self.entry i result }
     {
         let inflow = self.lists.harvest[i] as u64;
-        // a capacity of 32 bits, so that a compiler knows the ceiling to be no lower than the inflow
+        // it has 32 bits: a compiler that knows it sees that no inflow is above its ceiling
         let capacity = self.rule.capacity as u32;
         At {
             inflow,
@@ -59,7 +59,7 @@ fn most_of(energy: u64, most: u32) -> u64
     ensures { (result ≡ most_of energy (bounds 0 most)) × (result < 2 ^ 32) }
 {
     if most == NO_UPPER_END {
-        energy as u32 as u64
+        energy
     } else {
         most as u64
     }

@@ -1,7 +1,6 @@
 // Knots: levels at which the growth of a curve changes. They stand in rising order in a part of a list that grows and
-// shrinks at both ends. Where they begin around the middle, four places for each frame suffice: a frame bends the curve
-// twice, by one each time, and an end that was cut off comes back with no more knots than there were bends beyond it. Were
-// an end of the list reached, a knot would be lost, and the guess could be wrong.
+// shrinks at both ends. Around the middle of the list four places for each frame suffice (docs/DECISIONS.md, "Can the
+// curve lose knots?"); were an end of it reached, a knot would be lost, and the guess could be wrong.
 ghost use Rattle.std.specs.Prelude.{◌≡◌, ◌+◌, ◌<◌, ◌≤◌, length};
 
 use certifier::low_bits;
@@ -38,8 +37,8 @@ impl Knot {
     }
 }
 
-// The knots are list[first..end]. The list is lent and its ends stand beside it, since memory is fixed: there is no heap
-// for a deque.
+// The knots are list[first..end]. The list is lent and its ends stand beside it, since memory is fixed: there is no
+// heap for a deque.
 #[derive(Drop)]
 pub struct Knots<'a> {
     pub list: &'a mut [Knot],
@@ -81,40 +80,78 @@ impl<'a> Knots<'a> {
         }
     }
 
-    // Where a knot belongs among the others: behind all that are below it. By hand, since `partition_point` asks that they
-    // are in order, which is not proved.
-    fn place_of(&self, knot: Knot) -> usize
-        ensures { (self.entry.now.first ≤ result) × (result ≤ self.entry.now.end) }
-    {
-        let mut low = self.first;
-        let mut high = self.end;
-        // no index is counted: the range is halved
-        while low < high {
-            let middle = low + (high - low) / 2;
-            if self.list[middle].place < knot.place {
-                low = middle + 1;
-            } else {
-                high = middle;
-            }
-        }
-        low
-    }
-
-    // Puts a knot among the others, of which those on the side of the nearer end move by one place; none where an end of
-    // the list is reached.
+    // Puts a knot among the others, from the nearer end; none where an end of the list is reached.
     pub fn insert(&mut self, knot: Knot) {
         if self.first == 0 || self.end == self.list.len() {
             return;
         }
-        let place = self.place_of(knot);
-        if place - self.first < self.end - place {
-            self.list.copy_within(self.first..place, self.first - 1);
-            self.list[place - 1] = knot;
-            self.first -= 1;
+        let middle = self.first + (self.end - self.first) / 2;
+        if knot.place < self.list[middle].place {
+            self.insert_from_first(knot);
         } else {
-            self.list.copy_within(place..self.end, place + 1);
-            self.list[place] = knot;
-            self.end += 1;
+            self.insert_from_end(knot);
         }
+    }
+
+    // The next two are no twins: one frees a place below the first knot and goes up, the other one above the last and
+    // goes down. Both move knots as they search, four at a time as long as there are four, which counts by hand: for a
+    // search by halves and `copy_within` see docs/DECISIONS.md, "How does a knot come to its place?".
+
+    // Puts a knot before all that are not below it; those below it go down by one place.
+    fn insert_from_first(&mut self, knot: Knot)
+        requires { 0 < self.old.first }
+    {
+        let mut gap = self.first - 1;
+        while gap + 4 < self.end && self.list[gap + 4].place < knot.place {
+            self.move_four(gap + 1, gap);
+            gap += 4;
+        }
+        for i in gap + 1..self.end {
+            let next = self.list[i];
+            if knot.place <= next.place {
+                break;
+            }
+            self.list[gap] = next;
+            gap = i;
+        }
+        self.list[gap] = knot;
+        self.first -= 1;
+    }
+
+    // Puts a knot behind all that are not above it; those above it go up by one place.
+    fn insert_from_end(&mut self, knot: Knot)
+        requires { self.old.end < length self.old.list.now }
+    {
+        let mut gap = self.end;
+        while self.first + 4 <= gap && knot.place < self.list[gap - 4].place {
+            gap -= 4;
+            self.move_four(gap, gap + 1);
+        }
+        for i in (self.first..gap).rev() {
+            let next = self.list[i];
+            if next.place <= knot.place {
+                break;
+            }
+            self.list[gap] = next;
+            gap = i;
+        }
+        self.list[gap] = knot;
+        self.end += 1;
+    }
+
+    // Four knots go to another place.
+    fn move_four(&mut self, from: usize, to: usize)
+        requires { (from + 4 ≤ length self.old.list.now) × (to + 4 ≤ length self.old.list.now) }
+        ensures { (self.new.first ≡ self.old.first) × (self.new.end ≡ self.old.end) ×
+            (length self.new.list.now ≡ length self.old.list.now) }
+    {
+        let a = self.list[from];
+        let b = self.list[from + 1];
+        let c = self.list[from + 2];
+        let d = self.list[from + 3];
+        self.list[to] = a;
+        self.list[to + 1] = b;
+        self.list[to + 2] = c;
+        self.list[to + 3] = d;
     }
 }

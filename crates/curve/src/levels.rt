@@ -8,7 +8,8 @@
 // one, and where it is full from a lower one on, it falls to just below that. So a pass from the front finds all
 // levels.
 //
-// Most knots are written and met near an end of the curve. Where many lie between, a new one has up to half of them moved.
+// Most knots are written and met near an end of the curve. Where many lie between, a new one has up to half of them
+// moved.
 ghost use Rattle.std.specs.Prelude.{◌≡◌, ◌<◌, ◌≤◌, length};
 ghost use Rattle.certifier.specs.Says.{frame_count};
 
@@ -79,8 +80,8 @@ fn choose(roof: u32, lows: &mut [u32], highs: &[u32]) {
 }
 
 // Writes the levels at which the curve leaves 0 or becomes full where the levels turn; `highs` and `knots` are scratch.
-// They are three lists, since memory is fixed: the levels stand in the list that becomes the budgets, and the other two are
-// lent by whoever has room.
+// They are three lists, since memory is fixed: the levels stand in the list that becomes the budgets, and the other two
+// are lent by whoever has room.
 pub fn curve_levels(
     frames: Frames,
     start: u64,

@@ -48,7 +48,7 @@ impl<'a> Curve<'a> {
         }
         let free = f.ceiling - self.full;
         let last = if free <= f.taken(f.most) {
-            free.wrapping_sub(f.taken(1))
+            self.roof.min(free.wrapping_sub(f.taken(1)))
         } else {
             self.roof
         };
@@ -105,8 +105,8 @@ impl<'a> Curve<'a> {
         let (high, high_knot) = self.drawn_high(f);
         self.low = low;
         self.high = high;
-        // One call for both, so that a compiler puts it into the pass. By `into_iter().flatten()` the curve takes 37 %
-        // more instructions, and a plan with bounds more than 1.5 times those of one without.
+        // One call for both, so that a compiler puts it into the pass. By `into_iter().flatten()` the curve took 37 %
+        // more instructions.
         for knot in [low_knot, high_knot] {
             if let Some(knot) = knot {
                 self.knots.insert(knot);

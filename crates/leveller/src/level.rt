@@ -18,8 +18,8 @@ pub fn one_level(frames: Frames, start: u64) -> Option<u32> {
     lasts_at_first(frames, start, level).then_some(low_bits(level))
 }
 
-// The level at which all is drawn, or whatever is reached where that is not found in some rounds. The first is the mean,
-// which it is where no bound binds.
+// The level at which all is drawn, or whatever is reached where that is not found in some rounds. They begin with the
+// mean, and end there where no bound binds.
 fn shared_level(lists: Lists, all: u64) -> u64 {
     let mut level = over(all, lists.harvest.len() as u64);
     for _ in 0..ROUNDS {

@@ -7,8 +7,8 @@ ghost use Rattle.model.specs.Refusals.{bad_bounds, bounds_refused, none};
 use model::Refusal;
 use model::limits::{MAX_BOUND, NO_UPPER_END};
 
-// Whether no frame may have these bounds: the least above the most, or either above its limit. By `|` and `&`, which make
-// no branch.
+// Whether no frame may have these bounds: the least above the most, or either above its limit. By `|` and `&`, which
+// make no branch.
 fn bad_bounds(least: u32, most: u32) -> bool
     ensures { result ≡ bad_bounds (bounds least most) }
 {

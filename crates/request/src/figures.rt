@@ -15,8 +15,8 @@ pub fn check_capacity(figure: u32) -> Result<(), Refusal>
     check_that(figure <= MAX_CAPACITY, Refusal::CapacityAboveLimit)
 }
 
-// Whether every harvest is within the limit: a look at all of them, without a branch, which takes a fraction of the time
-// that finding the first does.
+// Whether every harvest is within the limit: a look at all of them, without a branch, which takes a fraction of the
+// time that finding the first one above it takes.
 fn all_within(harvest: &[u32]) -> bool
     ensures { result ≡ true → (k : ℕ) → harvest_over_limit k harvest.now ≡ none }
 {

@@ -63,8 +63,8 @@ pub fn open_store(start: u32, all: u64) -> u32
     (start as u64 + all) as u32
 }
 
-// Refusals 9 and 11 where the leasts are within the bounds: 11 is whether they can be drawn. Where there are none, the end
-// charge is all there is to reach, and 9 says whether it is.
+// Refusals 9 and 11 where the leasts are within the bounds: 11 is whether they can be drawn. Where there are none, and
+// the store can hold the end charge, 9 has said all: what comes in reaches it.
 pub fn check_reachable(figures: Figures, harvest: &[u32], least: &[u32]) -> Result<(), Refusal>
     requires { length least.now ≡ length harvest.now }
     ensures { refused result ≡ first_of (unreachable_by figures harvest.now least.now) }

@@ -1,5 +1,5 @@
 //! Plans document 01's request, records a frame that went otherwise, and plans the rest again.
-//! Run: `rust/cargo run -p energy --example plan`, after `rt lib` in crates/energy.
+//! Run: `rust/cargo run -p energy --example plan`, after `tools/library`.
 
 use energy::{Energy, Figures, Frames, Linked, Refusal};
 

@@ -96,29 +96,54 @@ impl Knots {
         self.end += 1;
     }
 
-    /// Where a knot belongs among the others: behind all that are below it.
-    #[inline(always)]
-    fn place_of(&self, knot: Knot) -> usize {
-        let knots = &self.list[self.first..self.end];
-        self.first + knots.partition_point(|other| other.place < knot.place)
-    }
-
-    /// Puts a knot among the others, of which those on the side of the nearer end move by one place.
+    /// Puts a knot among the others, from the nearer end.
     #[inline(always)]
     pub fn insert(&mut self, knot: Knot) {
         if self.first == 0 || self.end == self.list.len() {
             self.lost += 1;
             return;
         }
-        let place = self.place_of(knot);
-        if place - self.first < self.end - place {
-            self.list.copy_within(self.first..place, self.first - 1);
-            self.list[place - 1] = knot;
-            self.first -= 1;
+        if knot.place < self.list[(self.first + self.end) / 2].place {
+            self.insert_from_first(knot);
         } else {
-            self.list.copy_within(place..self.end, place + 1);
-            self.list[place] = knot;
-            self.end += 1;
+            self.insert_from_end(knot);
         }
+    }
+
+    /// Puts a knot before all that are not below it; the others go down by one place, four at a time as long as four
+    /// do.
+    #[inline(always)]
+    fn insert_from_first(&mut self, knot: Knot) {
+        let Knots { list, first, end, .. } = self;
+        let mut i = *first;
+        while i + 4 <= *end && list[i + 3].place < knot.place {
+            let four: [Knot; 4] = list[i..i + 4].try_into().expect("four knots");
+            list[i - 1..i + 3].copy_from_slice(&four);
+            i += 4;
+        }
+        while i < *end && list[i].place < knot.place {
+            list[i - 1] = list[i];
+            i += 1;
+        }
+        list[i - 1] = knot;
+        *first -= 1;
+    }
+
+    /// Puts a knot behind all that are not above it; the others go up by one place, four at a time as long as four do.
+    #[inline(always)]
+    fn insert_from_end(&mut self, knot: Knot) {
+        let Knots { list, first, end, .. } = self;
+        let mut i = *end;
+        while *first + 4 <= i && knot.place < list[i - 4].place {
+            let four: [Knot; 4] = list[i - 4..i].try_into().expect("four knots");
+            list[i - 3..=i].copy_from_slice(&four);
+            i -= 4;
+        }
+        while *first < i && knot.place < list[i - 1].place {
+            list[i] = list[i - 1];
+            i -= 1;
+        }
+        list[i] = knot;
+        *end += 1;
     }
 }
