@@ -59,7 +59,8 @@ fn most_of(energy: u64, most: u32) -> u64
     ensures { (result ≡ most_of energy (bounds 0 most)) × (result < 2 ^ 32) }
 {
     if most == NO_UPPER_END {
-        energy
+        // it has 32 bits too
+        energy as u32 as u64
     } else {
         most as u64
     }
