@@ -1,4 +1,4 @@
-// The guess for any frames: the reserve as a curve over the levels.
+// The second guess: the reserve as a curve over the levels.
 //
 // The reserve of a level is 0 at low levels and the full store at high ones, and between it grows from one level to the
 // next by as much as the frames behind draw more. One pass from behind keeps that curve by its knots, the levels at

@@ -1,4 +1,4 @@
-// The guess for any frames: the reserve as a curve over the levels, kept by its knots.
+// The second guess: the reserve as a curve over the levels, kept by its knots. `levels` tells how.
 #![tactic(auto)]
 
 mod curve;

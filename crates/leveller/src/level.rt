@@ -11,7 +11,8 @@ const FIRST: usize = 64;
 // How often the level is looked for.
 const ROUNDS: u64 = 6;
 
-// The level, if the first frames can draw it. Frames and start charge are two parameters, as at certifier's `Draft`.
+// The level, if the first frames can draw it. What there is to draw is reckoned from the rule's figures: no frame of
+// today has a drain. Frames and start charge are two parameters, as at certifier's `Draft`.
 pub fn one_level(frames: Frames, start: u64) -> Option<u32> {
     let all = frames.rule.energy.saturating_sub(frames.rule.end);
     let level = shared_level(frames.lists, all);

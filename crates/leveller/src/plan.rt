@@ -1,4 +1,5 @@
-// How a plan comes about. A level is guessed for each frame: one for all frames, or else those at which the curve turns.
+// How a plan comes about (docs/READING.md tells it in words). A level is guessed for each frame, which draws it, or its
+// least or its most where that binds: one level for all frames, or else the levels that the curve of reserves gives.
 // Certifier's `by_levels` certifies the levels and has the budgets follow them; where neither guess is certified, every
 // budget is searched. A guess that is wrong costs time and nothing else. Below that stands what lists all this works in.
 ghost use Rattle.std.specs.Prelude.{◌≡◌, true, length, ◌≤◌, ◌<◌, ◌^◌};
@@ -35,7 +36,8 @@ fn by_one_level(draft: &mut Draft) -> bool
     draft.by_levels()
 }
 
-// The plan by the curve, which keeps the highest levels in `after` until the certificate writes there.
+// The plan by the curve, which keeps the last level at which the reserve is not full in `after`, for each frame, until
+// the certificate writes there.
 fn by_curve<const KNOTS: usize>(draft: &mut Draft) -> bool
     requires { KNOTS < 2 ^ 32 }
     ensures { TriedOn draft.old draft.new result }
