@@ -1,7 +1,7 @@
 // How a plan comes about (docs/READING.md tells it in words). A level is guessed for each frame, which draws it, or its
 // least or its most where that binds: one level for all frames, or else the levels that the curve of reserves gives.
 // Certifier's `by_levels` certifies the levels and has the budgets follow them; where neither guess is certified, every
-// budget is searched. A guess that is wrong costs time and nothing else. Below that stands what lists all this works in.
+// budget is searched. A guess that is wrong costs time and nothing else. Below stands what lists all this works in.
 ghost use Rattle.std.specs.Prelude.{◌≡◌, true, length, ◌≤◌, ◌<◌, ◌^◌};
 ghost use Rattle.model.specs.Limits.{max_frames};
 ghost use Rattle.certifier.specs.Says.{frame_count, PlannedIn};
