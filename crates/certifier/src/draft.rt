@@ -23,8 +23,8 @@ impl<'a> Draft<'a> {
     ghost use Rattle.certifier.specs.Draft.{TriedOn};
 
     // The budgets are levels: has them certified and turns them into the plan's budgets, or leaves them as they are.
-    // The answer is a plain yes or no, as that of `certify`, for `||`: what stands in the lists
-    // after a no is the next guess's scratch, so an Option would have nothing to hold.
+    // The answer is a plain yes or no, as that of `certify`, for `||`: what stands in the lists after a no is the next
+    // guess's scratch, so an Option would have nothing to hold.
     pub fn by_levels(&mut self) -> bool
         ensures { TriedOn self.old self.new result }
     {

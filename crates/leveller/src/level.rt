@@ -11,6 +11,9 @@ const FIRST: usize = 64;
 // How often the level is looked for.
 const ROUNDS: u64 = 6;
 
+// The highest level, at which every frame draws its most.
+const TOP: u64 = u32::MAX as u64;
+
 // The level, if the first frames can draw it. What there is to draw is reckoned from the rule's figures: no frame of
 // today has a drain. Frames and start charge are two parameters, as at certifier's `Draft`.
 pub fn one_level(frames: Frames, start: u64) -> Option<u32> {
@@ -60,9 +63,13 @@ fn drawn_at(lists: Lists, level: u32) -> Drawn {
     )
 }
 
-// The level at which all would be drawn, if the same frames were free there.
+// The level at which all would be drawn, if the same frames were free there. Where none is and something is left, no
+// least binds from the level of all there is on: if none is free there either, every most binds, and the top is it.
 fn nearer(level: u64, d: Drawn, all: u64) -> u64 {
     let free = d.free as u64;
+    if free == 0 && d.sum < all {
+        return if level < all { all } else { TOP };
+    }
     if d.sum <= all {
         return level.wrapping_add(over(all - d.sum, free));
     }

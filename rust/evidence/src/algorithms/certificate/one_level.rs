@@ -1,8 +1,8 @@
-//! The first guess: one level for all frames, at which they draw all that there is to draw: the mean, or, where frames
-//! are bounded, the mean of what the others leave. Many requests have no other level. Where the store runs dry or
-//! overflows at it in the first frames, as before a sunrise, it is not worth a certificate.
+//! The first guess: one level for all frames, at which they draw all that there is to draw. Many requests have no other
+//! level. Where the store runs dry or overflows at it in the first frames, as before a sunrise, it is not worth a
+//! certificate.
 
-use super::frame::Frames;
+use super::frame::{Frames, TOP};
 
 /// How many frames are the first ones.
 const FIRST: usize = 64;
@@ -37,8 +37,12 @@ fn over(a: u64, n: u64) -> u64 {
     a.checked_div(n).unwrap_or(a)
 }
 
-/// The level at which all would be drawn, if the same frames were free there.
+/// The level at which all would be drawn, if the same frames were free there. Where none is and something is left, no
+/// least binds from the level of all there is on: if none is free there either, every most binds, and the top is it.
 fn nearer(level: u64, drawn: Drawn, all: u64) -> u64 {
+    if drawn.free == 0 && drawn.sum < all {
+        return if level < all { all } else { TOP };
+    }
     if drawn.sum <= all {
         return level + over(all - drawn.sum, drawn.free);
     }
