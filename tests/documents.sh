@@ -104,12 +104,12 @@ while IFS='|' read -r _ entry file promise _; do
     clauses=$(contract "$entry" "$file")
     [[ $clauses == *" ensures { $promise "* && $clauses != *' ensures '*' ensures '* && $clauses != *requires* ]]
     verdict $? "READING: $entry of $file has a requires, or its one ensures is not $promise: $clauses"
-    asking=$(grep -oE '[A-Z][A-Za-z0-9]*' <<<"${clauses%%->*}" | grep -vxE 'C|Figures|Lists|Request|Shift')
+    asking=$(grep -oE '[A-Z][A-Za-z0-9]*' <<<"${clauses%%->*}" | grep -vxE 'C|Figures|Outlook|Request|Shift|Typed')
     verdict $((${#asking} > 0)) "READING: $entry of $file takes $asking, which may ask something"
     rows=$((rows + 1))
 done < <(rows_of '| entry | code | promise |')
 verdict $((rows == 0)) 'READING: no entries'
-! grep -n 'ghost' crates/{model,shift}/src/lib.rt | grep -v 'ghost use'
+! grep -n 'ghost' crates/{model,shift}/src/lib.rt crates/rest/src/outlook.rt | grep -v 'ghost use'
 verdict $? 'a struct that an entry takes asks something'
 check 'READING: what is exported to C' "$(grep -rhoE 'extern "C" fn [a-z_]+' crates/*/src | sed 's/.* //' | sort)" \
     "$(names_in '| entry | code | promise |' | sed -n 's/^energy //p')"

@@ -1,7 +1,7 @@
 -- Every case of the table holds, by computing the definitions.
 use mathlib.Core.Path.{refl}
-use Rattle.model.specs.Frames.{reserve, largest, budget, plan, requirement, peak}
-use Rattle.model.specs.Plan.{frames_of, plan_of, open_plan, needed_of}
+use Rattle.model.specs.Frames.{reserve, largest, budget, plan, requirement}
+use Rattle.model.specs.Plan.{frames_of, plan_of, open_plan, peak, needed_of}
 use Rattle.text.specs.Decimal.{decimal}
 use Rattle.text.specs.Line.{line_of}
 use Rattle.cases.specs.Cases.{AllHold, cases}

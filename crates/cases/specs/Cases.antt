@@ -7,8 +7,8 @@ use Rattle.std.specs.Prelude.{ℕ, ◌+◌, ◌*◌, ℤ, pos, negsuc}
 use Prim.Native.String.{String}
 use Rattle.model.specs.Limits.{no_upper_end}
 use Rattle.model.specs.Request.{Request, bounded_request, figures, frame_count}
-use Rattle.model.specs.Refusals.{Refusal, refusal, none, plan_refusal, needed_refusal, trace_refusal, grade_refusal}
-use Rattle.model.specs.Refusals.{start_refusal}
+use Rattle.model.specs.Refusals.{Refusal, refusal, none, plan_refusal, own_plan_refusal, needed_refusal}
+use Rattle.model.specs.Refusals.{trace_refusal, grade_refusal, start_refusal}
 use Rattle.model.specs.Charge.{charges, losses}
 use Rattle.model.specs.Trace.{trace, trace_losses, Verdict, below_zero, end_too_low, is_feasible, verdict}
 use Rattle.model.specs.Curves.{house_curve, unit_gain, grade}
@@ -16,8 +16,8 @@ use Rattle.model.specs.Plan.{plan_of, needed_of}
 use Rattle.model.specs.Lent.{over}
 use Rattle.shift.specs.declared.Terms.{Terms}
 use Rattle.shift.specs.declared.Shift.{Shift}
-use Rattle.shift.specs.Shift.{started, record_refusal, recorded_by}
-use Rattle.rest.specs.Rest.{Lists, lists, Ending, not_short, ending_of, rest_request, rest_refusal, rest_budgets}
+use Rattle.shift.specs.Shift.{started, typed, record_refusal, recorded_by}
+use Rattle.rest.specs.Rest.{Outlook, outlook, Ending, not_short, ending_of, rest_request, rest_refusal, rest_budgets}
 use Rattle.rest.specs.Rest.{part_refusal, part_of, written_from}
 use Rattle.words.specs.Words.{bytes_of}
 use Rattle.wordfile.specs.File.{file_words, file_bytes, request_in, read_refusal, write_refusal}
@@ -38,7 +38,7 @@ passes f = f ≡ none
 -- the refusal of a request with all lent lists of length K: of planning it, of its needed capacity, of tracing it, of a
 -- shift's start from it, and of writing it into a list of that room
 abbrev pub planning : Request → Refusal
-planning r = plan_refusal r (frame_count r) (frame_count r) (frame_count r)
+planning r = own_plan_refusal r
 
 abbrev pub needing : Request → Refusal
 needing r = needed_refusal r (frame_count r) (frame_count r)
@@ -51,6 +51,22 @@ starting r = start_refusal r (frame_count r) (frame_count r)
 
 abbrev pub writing : Request → ℕ → Refusal
 writing r room = write_refusal r (frame_count r) (frame_count r) room
+
+-- the refusal of planning a request with lists of l leasts, m mosts and n budgets
+abbrev pub planning_with : Request → ℕ → ℕ → ℕ → Refusal
+planning_with r l m n = plan_refusal r l m (n ∷ [])
+
+-- the refusal of planning the rest of a shift by an outlook into n budgets
+abbrev pub resting : Shift → Outlook → ℕ → Refusal
+resting s p n = rest_refusal s p (n ∷ [])
+
+-- a shift of whose next frame a harvest and a use are typed: the refusal of recording them, and the shift after that
+-- frame
+abbrev pub recording : Shift → ℕ → ℕ → Refusal
+recording s h u = record_refusal s (typed h u)
+
+abbrev pub recorded : Shift → ℕ → ℕ → Shift
+recorded s h u = recorded_by s (typed h u)
 
 -- a request and its plan
 abbrev pub plans : Request → List ℕ → Type 0
@@ -80,15 +96,15 @@ traces r bs zs ls v = (trace r bs ≡ zs) × (trace_losses r bs ≡ ls) × (verd
 -- a shift, a recorded harvest and use, the charge that is left and what is lost
 abbrev pub records : Shift → ℕ → ℕ → ℕ → ℕ → Type 0
 records s h u x l =
-    passes (record_refusal s h u)
-    × ((recorded_by s h u).now.charge ≡ x)
-    × ((recorded_by s h u).now.totals.lost ≡ s.now.totals.lost + l)
+    passes (recording s h u)
+    × ((recorded s h u).now.charge ≡ x)
+    × ((recorded s h u).now.totals.lost ≡ s.now.totals.lost + l)
 
--- a shift, the lists that planning the rest is lent, how it ends, and the budgets that it writes
-abbrev pub rests : Shift → Lists → Ending → List ℕ → Type 0
+-- a shift, the outlook that planning the rest goes by, how it ends, and the budgets that it writes
+abbrev pub rests : Shift → Outlook → Ending → List ℕ → Type 0
 rests s p e bs =
     let q = rest_request s p in
-    passes (rest_refusal s p s.terms.frames) × (ending_of q ≡ e) × (rest_budgets q ≡ bs)
+    passes (resting s p s.terms.frames) × (ending_of q ≡ e) × (rest_budgets q ≡ bs)
 
 -- a request and the words of its file
 abbrev pub words : Request → List ℕ → Type 0
@@ -121,15 +137,18 @@ evenly k = asked 9 0 0 (replicate k 1)
 abbrev pub within : ℕ → Request
 within k = bound 9 0 0 (replicate k 1) (replicate k 1) (replicate k 1)
 
--- lists for planning the rest: harvests with leasts and no upper ends; and harvests alone
-abbrev pub at_least : List ℕ → List ℕ → Lists
+-- lists for planning the rest: harvests, leasts and mosts; harvests with leasts and no upper ends; and harvests alone
+abbrev pub lists : List ℕ → List ℕ → List ℕ → Outlook
+lists hs ls ms = outlook hs ls ms
+
+abbrev pub at_least : List ℕ → List ℕ → Outlook
 at_least hs ls = lists hs ls (replicate (length hs) no_upper_end)
 
-abbrev pub free : List ℕ → Lists
+abbrev pub free : List ℕ → Outlook
 free hs = at_least hs (replicate (length hs) 0)
 
 -- lists for planning the rest with these lengths, of zeros
-abbrev pub blank : ℕ → ℕ → ℕ → Lists
+abbrev pub blank : ℕ → ℕ → ℕ → Outlook
 blank h l m = lists (replicate h 0) (replicate l 0) (replicate m 0)
 
 -- the harvests of the listing
@@ -202,7 +221,7 @@ over_full_done = shift (terms 1 5 4 0) 1 6 3 1 0
 
 -- the listing's shift with frame 1 recorded: harvest 1, use 3
 abbrev pub after_one : Shift
-after_one = recorded_by (started (listing 5)) 1 3
+after_one = recorded (started (listing 5)) 1 3
 
 -- short, and by how much
 abbrev pub short_by : ℕ → Ending
@@ -250,9 +269,9 @@ cases =
     -- a shift's start, recordings, and rests, the last of which the capacity binds
     ∷ (started (asked 9 4 5 (1 ∷ 2 ∷ [])) ≡ shift (terms 2 9 4 5) 0 4 0 0 0)
     ∷ records four 3 7 0 0
-    ∷ refuses (record_refusal four 3 8) 21 1
+    ∷ refuses (recording four 3 8) 21 1
     ∷ records four 3 1 5 1
-    ∷ (recorded_by half_done 5 1 ≡ shift (terms 2 5 4 0) 2 5 7 2 4)
+    ∷ (recorded half_done 5 1 ≡ shift (terms 2 5 4 0) 2 5 7 2 4)
     ∷ rests after_one (free sun) not_short (2 ∷ 1 ∷ 1 ∷ 4 ∷ 4 ∷ [])
     ∷ rests (shift (terms 2 9 4 1) 1 5 2 1 0) (free (1 ∷ 2 ∷ [])) not_short (6 ∷ [])
     ∷ rests after_one (free (6 ∷ 9 ∷ 0 ∷ 0 ∷ 5 ∷ 5 ∷ [])) not_short (4 ∷ 3 ∷ 2 ∷ 4 ∷ 4 ∷ [])
@@ -323,10 +342,10 @@ cases =
     ∷ refuses (planning (bound 9 0 0 (1 ∷ 1 ∷ []) (0 ∷ 0 ∷ []) (536870911 ∷ 4294967294 ∷ []))) 10 2
     ∷ passes (planning (bound 9 0 0 (1 ∷ 1 ∷ []) (0 ∷ 0 ∷ []) (536870911 ∷ 4294967295 ∷ [])))
     -- planning: the order
-    ∷ refuses (plan_refusal (evenly 0) 1 0 0) 1 0
-    ∷ refuses (plan_refusal (evenly 673) 673 673 672) 2 0
-    ∷ refuses (plan_refusal (evenly 673) 672 673 673) 2 0
-    ∷ refuses (plan_refusal (asked 1000000001 0 0 (1 ∷ [])) 1 1 0) 7 0
+    ∷ refuses (planning_with (evenly 0) 1 0 0) 1 0
+    ∷ refuses (planning_with (evenly 673) 673 673 672) 2 0
+    ∷ refuses (planning_with (evenly 673) 672 673 673) 2 0
+    ∷ refuses (planning_with (asked 1000000001 0 0 (1 ∷ [])) 1 1 0) 7 0
     ∷ refuses (planning both_3_4) 3 0
     ∷ refuses (planning both_4_5) 4 0
     ∷ refuses (planning both_5_6) 5 0
@@ -334,12 +353,12 @@ cases =
     ∷ refuses (planning both_10_9) 10 2
     ∷ refuses (planning both_9_11) 9 1
     -- planning: the lists of leasts, mosts and budgets, one too short and one too long
-    ∷ refuses (plan_refusal (evenly 2) 1 2 2) 7 0
-    ∷ refuses (plan_refusal (evenly 2) 3 2 2) 7 0
-    ∷ refuses (plan_refusal (evenly 2) 2 1 2) 7 0
-    ∷ refuses (plan_refusal (evenly 2) 2 3 2) 7 0
-    ∷ refuses (plan_refusal (evenly 2) 2 2 1) 7 0
-    ∷ refuses (plan_refusal (evenly 2) 2 2 3) 7 0
+    ∷ refuses (planning_with (evenly 2) 1 2 2) 7 0
+    ∷ refuses (planning_with (evenly 2) 3 2 2) 7 0
+    ∷ refuses (planning_with (evenly 2) 2 1 2) 7 0
+    ∷ refuses (planning_with (evenly 2) 2 3 2) 7 0
+    ∷ refuses (planning_with (evenly 2) 2 2 1) 7 0
+    ∷ refuses (planning_with (evenly 2) 2 2 3) 7 0
     -- the needed capacity: its 3 is for start and end, and the capacity plays no part
     ∷ refuses (needing (evenly 0)) 1 0
     ∷ passes (needing (evenly 672))
@@ -433,67 +452,67 @@ cases =
     ∷ refuses (start_refusal (evenly 2) 2 3) 7 0
     -- recording: a shift of the most frames, and one of more
     ∷ records (started (evenly 672)) 1 1 0 0
-    ∷ refuses (record_refusal (started (evenly 673)) 1 1) 22 0
+    ∷ refuses (recording (started (evenly 673)) 1 1) 22 0
     -- each part of 22, by a record that breaks it alone, beside one at its limit: frames, capacity, start, end,
     -- frames recorded, charge, what was harvested, and the balance
-    ∷ refuses (record_refusal (shift (terms 0 5 4 0) 0 4 0 0 0) 1 1) 22 0
-    ∷ passes (record_refusal (shift (terms 1 1000000000 0 0) 0 0 0 0 0) 1 1)
-    ∷ refuses (record_refusal (shift (terms 1 1000000001 0 0) 0 0 0 0 0) 1 1) 22 0
-    ∷ passes (record_refusal (shift (terms 1 5 5 0) 0 5 0 0 0) 1 1)
-    ∷ refuses (record_refusal (shift (terms 1 5 6 0) 0 5 0 1 0) 1 1) 22 0
-    ∷ passes (record_refusal (shift (terms 1 5 4 5) 0 4 0 0 0) 1 1)
-    ∷ refuses (record_refusal (shift (terms 1 5 4 6) 0 4 0 0 0) 1 1) 22 0
-    ∷ refuses (record_refusal (shift (terms 1 5 4 0) 1 4 0 0 0) 1 1) 20 0
-    ∷ refuses (record_refusal (shift (terms 1 5 4 0) 2 4 0 0 0) 1 1) 22 0
-    ∷ passes (record_refusal (shift (terms 2 5 4 0) 1 5 1 0 0) 1 1)
-    ∷ refuses (record_refusal (shift (terms 2 5 4 0) 1 6 2 0 0) 1 1) 22 0
-    ∷ passes (record_refusal (shift (terms 4 5 4 0) 2 4 800000 800000 0) 1 1)
-    ∷ refuses (record_refusal (shift (terms 4 5 4 0) 2 4 800001 800001 0) 1 1) 22 0
-    ∷ passes (record_refusal half_done 1 1)
-    ∷ refuses (record_refusal (shift (terms 2 5 4 0) 1 2 2 1 2) 1 1) 22 0
-    ∷ refuses (record_refusal (shift (terms 2 5 4 0) 1 4 2 1 2) 1 1) 22 0
-    ∷ refuses (record_refusal (shift (terms 2 5 4 0) 1 3 1 1 2) 1 1) 22 0
-    ∷ refuses (record_refusal (shift (terms 2 5 4 0) 1 3 3 1 2) 1 1) 22 0
-    ∷ refuses (record_refusal (shift (terms 2 5 4 0) 1 3 2 0 2) 1 1) 22 0
-    ∷ refuses (record_refusal (shift (terms 2 5 4 0) 1 3 2 2 2) 1 1) 22 0
-    ∷ refuses (record_refusal (shift (terms 2 5 4 0) 1 3 2 1 1) 1 1) 22 0
-    ∷ refuses (record_refusal (shift (terms 2 5 4 0) 1 3 2 1 3) 1 1) 22 0
+    ∷ refuses (recording (shift (terms 0 5 4 0) 0 4 0 0 0) 1 1) 22 0
+    ∷ passes (recording (shift (terms 1 1000000000 0 0) 0 0 0 0 0) 1 1)
+    ∷ refuses (recording (shift (terms 1 1000000001 0 0) 0 0 0 0 0) 1 1) 22 0
+    ∷ passes (recording (shift (terms 1 5 5 0) 0 5 0 0 0) 1 1)
+    ∷ refuses (recording (shift (terms 1 5 6 0) 0 5 0 1 0) 1 1) 22 0
+    ∷ passes (recording (shift (terms 1 5 4 5) 0 4 0 0 0) 1 1)
+    ∷ refuses (recording (shift (terms 1 5 4 6) 0 4 0 0 0) 1 1) 22 0
+    ∷ refuses (recording (shift (terms 1 5 4 0) 1 4 0 0 0) 1 1) 20 0
+    ∷ refuses (recording (shift (terms 1 5 4 0) 2 4 0 0 0) 1 1) 22 0
+    ∷ passes (recording (shift (terms 2 5 4 0) 1 5 1 0 0) 1 1)
+    ∷ refuses (recording (shift (terms 2 5 4 0) 1 6 2 0 0) 1 1) 22 0
+    ∷ passes (recording (shift (terms 4 5 4 0) 2 4 800000 800000 0) 1 1)
+    ∷ refuses (recording (shift (terms 4 5 4 0) 2 4 800001 800001 0) 1 1) 22 0
+    ∷ passes (recording half_done 1 1)
+    ∷ refuses (recording (shift (terms 2 5 4 0) 1 2 2 1 2) 1 1) 22 0
+    ∷ refuses (recording (shift (terms 2 5 4 0) 1 4 2 1 2) 1 1) 22 0
+    ∷ refuses (recording (shift (terms 2 5 4 0) 1 3 1 1 2) 1 1) 22 0
+    ∷ refuses (recording (shift (terms 2 5 4 0) 1 3 3 1 2) 1 1) 22 0
+    ∷ refuses (recording (shift (terms 2 5 4 0) 1 3 2 0 2) 1 1) 22 0
+    ∷ refuses (recording (shift (terms 2 5 4 0) 1 3 2 2 2) 1 1) 22 0
+    ∷ refuses (recording (shift (terms 2 5 4 0) 1 3 2 1 1) 1 1) 22 0
+    ∷ refuses (recording (shift (terms 2 5 4 0) 1 3 2 1 3) 1 1) 22 0
     -- recording: 20, 6 with the frame being recorded, and 21 with the excess; the order
-    ∷ refuses (record_refusal all_done 1 1) 20 0
-    ∷ passes (record_refusal half_done 400000 1)
-    ∷ refuses (record_refusal four 400001 1) 6 1
-    ∷ refuses (record_refusal half_done 400001 1) 6 2
-    ∷ passes (record_refusal half_done 2 5)
-    ∷ refuses (record_refusal half_done 2 9) 21 4
-    ∷ refuses (record_refusal over_full_done 1 1) 22 0
-    ∷ refuses (record_refusal all_done 400001 1) 20 0
-    ∷ refuses (record_refusal all_done 1 9) 20 0
-    ∷ refuses (record_refusal half_done 400001 400009) 6 2
+    ∷ refuses (recording all_done 1 1) 20 0
+    ∷ passes (recording half_done 400000 1)
+    ∷ refuses (recording four 400001 1) 6 1
+    ∷ refuses (recording half_done 400001 1) 6 2
+    ∷ passes (recording half_done 2 5)
+    ∷ refuses (recording half_done 2 9) 21 4
+    ∷ refuses (recording over_full_done 1 1) 22 0
+    ∷ refuses (recording all_done 400001 1) 20 0
+    ∷ refuses (recording all_done 1 9) 20 0
+    ∷ refuses (recording half_done 400001 400009) 6 2
     -- planning the rest: 6 and 10 over the frames not yet recorded, numbered from the first frame of the shift
-    ∷ refuses (rest_refusal over_full (free (1 ∷ 1 ∷ [])) 2) 22 0
-    ∷ refuses (rest_refusal all_done (free (3 ∷ [])) 1) 20 0
-    ∷ passes (rest_refusal after_one (free (400001 ∷ drop 1 sun)) 6)
-    ∷ passes (rest_refusal half_done (free (0 ∷ 400000 ∷ [])) 2)
-    ∷ refuses (rest_refusal half_done (free (0 ∷ 400001 ∷ [])) 2) 6 2
-    ∷ refuses (rest_refusal after_one (lists sun no_leasts (0 ∷ 5 ∷ 536870912 ∷ 1 ∷ 1 ∷ 1 ∷ [])) 6) 10 3
-    ∷ refuses (rest_refusal after_one (lists sun (9 ∷ 0 ∷ 0 ∷ 4 ∷ 0 ∷ 0 ∷ []) (0 ∷ 5 ∷ 5 ∷ 3 ∷ 5 ∷ 5 ∷ [])) 6) 10 4
+    ∷ refuses (resting over_full (free (1 ∷ 1 ∷ [])) 2) 22 0
+    ∷ refuses (resting all_done (free (3 ∷ [])) 1) 20 0
+    ∷ passes (resting after_one (free (400001 ∷ drop 1 sun)) 6)
+    ∷ passes (resting half_done (free (0 ∷ 400000 ∷ [])) 2)
+    ∷ refuses (resting half_done (free (0 ∷ 400001 ∷ [])) 2) 6 2
+    ∷ refuses (resting after_one (lists sun no_leasts (0 ∷ 5 ∷ 536870912 ∷ 1 ∷ 1 ∷ 1 ∷ [])) 6) 10 3
+    ∷ refuses (resting after_one (lists sun (9 ∷ 0 ∷ 0 ∷ 4 ∷ 0 ∷ 0 ∷ []) (0 ∷ 5 ∷ 5 ∷ 3 ∷ 5 ∷ 5 ∷ [])) 6) 10 4
     -- planning the rest: the order; 20 leaves no frame for 6 and 10
-    ∷ refuses (rest_refusal over_full (free (1 ∷ [])) 2) 22 0
-    ∷ refuses (rest_refusal all_done (free (3 ∷ [])) 2) 7 0
-    ∷ refuses (rest_refusal all_done (free (3 ∷ 400001 ∷ [])) 1) 7 0
-    ∷ refuses (rest_refusal half_done (free (0 ∷ 400001 ∷ [])) 1) 7 0
-    ∷ refuses (rest_refusal half_done (lists (0 ∷ 0 ∷ []) (0 ∷ 3 ∷ []) (0 ∷ 2 ∷ [])) 1) 7 0
-    ∷ refuses (rest_refusal after_one (lists (6 ∷ 4 ∷ 0 ∷ 0 ∷ 5 ∷ 400001 ∷ []) no_leasts (0 ∷ 5 ∷ 536870912 ∷ 1 ∷ 1 ∷ 1
+    ∷ refuses (resting over_full (free (1 ∷ [])) 2) 22 0
+    ∷ refuses (resting all_done (free (3 ∷ [])) 2) 7 0
+    ∷ refuses (resting all_done (free (3 ∷ 400001 ∷ [])) 1) 7 0
+    ∷ refuses (resting half_done (free (0 ∷ 400001 ∷ [])) 1) 7 0
+    ∷ refuses (resting half_done (lists (0 ∷ 0 ∷ []) (0 ∷ 3 ∷ []) (0 ∷ 2 ∷ [])) 1) 7 0
+    ∷ refuses (resting after_one (lists (6 ∷ 4 ∷ 0 ∷ 0 ∷ 5 ∷ 400001 ∷ []) no_leasts (0 ∷ 5 ∷ 536870912 ∷ 1 ∷ 1 ∷ 1
     ∷ [])) 6) 6 6
     -- planning the rest: the lists of harvests, leasts, mosts and budgets
-    ∷ refuses (rest_refusal half_done (blank 1 2 2) 2) 7 0
-    ∷ refuses (rest_refusal half_done (blank 3 2 2) 2) 7 0
-    ∷ refuses (rest_refusal half_done (blank 2 1 2) 2) 7 0
-    ∷ refuses (rest_refusal half_done (blank 2 3 2) 2) 7 0
-    ∷ refuses (rest_refusal half_done (blank 2 2 1) 2) 7 0
-    ∷ refuses (rest_refusal half_done (blank 2 2 3) 2) 7 0
-    ∷ refuses (rest_refusal half_done (blank 2 2 2) 1) 7 0
-    ∷ refuses (rest_refusal half_done (blank 2 2 2) 3) 7 0
+    ∷ refuses (resting half_done (blank 1 2 2) 2) 7 0
+    ∷ refuses (resting half_done (blank 3 2 2) 2) 7 0
+    ∷ refuses (resting half_done (blank 2 1 2) 2) 7 0
+    ∷ refuses (resting half_done (blank 2 3 2) 2) 7 0
+    ∷ refuses (resting half_done (blank 2 2 1) 2) 7 0
+    ∷ refuses (resting half_done (blank 2 2 3) 2) 7 0
+    ∷ refuses (resting half_done (blank 2 2 2) 1) 7 0
+    ∷ refuses (resting half_done (blank 2 2 2) 3) 7 0
     -- the part of the rest: from the next frame on
     ∷ (part_of half_done (7 ∷ 8 ∷ []) ≡ (8 ∷ []))
     ∷ passes (part_refusal half_done 2)

@@ -1,5 +1,5 @@
 -- A frame's budget found is the plan's budget, and the plan goes on from what it leaves.
-use mathlib.Core.Path.{◌≡◌, refl, sym, ap, subst, ◌∙◌}
+use mathlib.Core.Path.{◌≡◌, sym, ap, subst, ◌∙◌}
 use mathlib.Core.List.{List, ◌∷◌, ◌++◌, append_assoc, append-nil}
 use Prim.Native.Nat.{ℕ, ◌+◌, ◌-◌, ◌≤◌, ◌<◌, ◌^◌, min}
 use native.Mathlib.Numerals.{add-one}
@@ -80,19 +80,6 @@ pub record Writing (e : ℕ) (fs : List Frame) (n start i y : ℕ) (bs : List �
   pub charge_fits : y ≤ 2 ^ 33
   pub able : Able e fs i y
   pub written : Written e fs i y bs (plan e start fs)
-
--- none is written
-pub writing_start : (e : ℕ) (fs : List Frame) (n start : ℕ) (bs : List ℕ) → length bs ≡ n → start < 2 ^ 32 →
-    Able e fs 0 start →
-    Writing e fs n start 0 start bs
-writing_start e fs n start bs l s a =
-    record {
-      within = omega arith;
-      same_length = l;
-      charge_fits = omega arith;
-      able = a;
-      written = record { is = refl };
-    }
 
 -- one more is written
 write_on : {e : ℕ} {fs : List Frame} {i y b z : ℕ} {bs whole : List ℕ} → Stepped e fs i y b z → i < length bs →

@@ -8,13 +8,13 @@ use Rattle.certifier.specs.Steps.{Able}
 
 -- the frames of harvests, leasts and mosts by a rule
 abbrev pub frames : Rule → List ℕ → List ℕ → List ℕ → List Frame
-frames r hs ls ms = frames_of r.capacity r.energy hs (bounds_of ls ms)
+frames r hs ls ms = frames_of r.store hs (bounds_of ls ms)
 
 -- a rule whose figures are of 32 bits
 pub record Small (r : Rule) : Type 0 where
-  pub capacity_fits : r.capacity < 2 ^ 32
+  pub capacity_fits : r.store.capacity < 2 ^ 32
   pub end_fits : r.end < 2 ^ 32
-  pub energy_fits : r.energy < 2 ^ 32
+  pub energy_fits : r.store.energy < 2 ^ 32
 
 -- frames that can be read by a rule: a least and a most for each harvest
 pub record Readable (r : Rule) (harvest least most : List ℕ) : Type 0 where

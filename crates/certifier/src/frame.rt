@@ -2,13 +2,13 @@
 ghost use Rattle.std.specs.Prelude.{◌≡◌, ◌+◌, ◌-◌, ◌≤◌, ◌^◌, min};
 ghost use Rattle.certifier.specs.Frame.{drawn, Plain};
 
-// What turns harvests, leasts and mosts into frames, and the charge to end with. No budget is above `energy`, the
-// most of a frame that has no upper end.
+use model::Store;
+
+// What turns harvests, leasts and mosts into frames, and the charge to end with.
 #[derive(Clone, Copy)]
 pub struct Rule {
-    pub capacity: u64,
+    pub store: Store,
     pub end: u64,
-    pub energy: u64,
 }
 
 // A frame of the request. Its figures leave room for sums.

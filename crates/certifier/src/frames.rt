@@ -1,7 +1,8 @@
-// How a request becomes frames. `Frames::at` alone knows the charge rule; all else works on any frame.
+// How a request becomes frames. `Frames::at` and `capacity_for` alone know the charge rule; all else works on any
+// frame.
 ghost use Rattle.std.specs.Prelude.{◌≡◌, ◌<◌, ◌^◌};
 ghost use Rattle.model.specs.Request.{bounds};
-ghost use Rattle.model.specs.Plan.{most_of};
+ghost use Rattle.model.specs.Plan.{capacity_for, most_of};
 ghost use Rattle.certifier.specs.Readable.{Readable};
 
 use super::frame::{At, Rule};
@@ -42,15 +43,22 @@ impl<'a> Frames<'a> {
     {
         let inflow = self.lists.harvest[i] as u64;
         // it has 32 bits: a compiler that knows it sees that no inflow is above its ceiling
-        let capacity = self.rule.capacity as u32;
+        let capacity = self.rule.store.capacity as u32;
         At {
             inflow,
             ceiling: capacity as u64 + inflow,
             drain: 0,
             least: self.lists.least[i] as u64,
-            most: most_of(self.rule.energy, self.lists.most[i]),
+            most: most_of(self.rule.store.energy, self.lists.most[i]),
         }
     }
+}
+
+// The least capacity with which a frame can spend and carry on so much.
+pub(crate) fn capacity_for(so_much: u64, inflow: u64) -> u64
+    ensures { result ≡ capacity_for so_much inflow }
+{
+    so_much.saturating_sub(inflow)
 }
 
 // The most of a frame; all energy where there is no upper end.

@@ -34,7 +34,7 @@ fn passed(frames: Frames, k: usize) -> Passed
 
 // A level above all that there is to draw.
 fn roof_of(frames: Frames) -> u64 {
-    frames.rule.energy + 1
+    frames.rule.store.energy + 1
 }
 
 // Draws the curve from behind, and writes for each frame the last level at which the reserve before it is 0, and the

@@ -6,8 +6,8 @@
 
 use model::limits::NO_UPPER_END;
 use model::{Figures, Lists, Refusal, Request};
-use rest::{plan_rest, rest_part};
-use shift::Shift;
+use rest::{Outlook, Wanted, plan_rest, rest_part};
+use shift::{Shift, Typed};
 use std::{fmt, io};
 
 // Why the program ends early: a write that failed, or a call that is refused.
@@ -49,7 +49,8 @@ fn list(rt: &impl Print, budgets: &[u32]) -> io::Result<()> {
 }
 
 // The frame's line.
-fn line(rt: &impl Print, harvest: u32, used: u32, shift: Shift) -> io::Result<()> {
+fn line(rt: &impl Print, typed: Typed, shift: Shift) -> io::Result<()> {
+    let Typed { harvest, used } = typed;
     let now = shift.now;
     println!(rt;
         "{} {harvest} {used} {} {}",
@@ -61,16 +62,17 @@ fn line(rt: &impl Print, harvest: u32, used: u32, shift: Shift) -> io::Result<()
 fn frame(
     rt: &impl Print,
     shift: Shift,
-    lists: Lists,
+    outlook: Outlook,
     harvest: u32,
     budgets: &mut [u32],
 ) -> Result<Shift, Failure> {
-    plan_rest(shift, lists, budgets)?;
+    plan_rest(shift, outlook, budgets)?;
     let part = rest_part(shift, budgets)?;
     list(rt, part)?;
     let used = part[0].min(shift.now.charge.saturating_add(harvest));
-    let after = shift.record(harvest, used)?;
-    line(rt, harvest, used, after)?;
+    let typed = Typed { harvest, used };
+    let after = shift.record(typed)?;
+    line(rt, typed, after)?;
     Ok(after)
 }
 
@@ -78,13 +80,13 @@ fn frame(
 fn run(
     rt: &impl Print,
     first: Shift,
-    lists: Lists,
+    outlook: Outlook,
     sun: &[u32],
     budgets: &mut [u32],
 ) -> Result<(), Failure> {
     let mut shift = first;
     for harvest in sun {
-        shift = frame(rt, shift, lists, *harvest, budgets)?;
+        shift = frame(rt, shift, outlook, *harvest, budgets)?;
     }
     let totals = shift.now.totals;
     println!(rt; "{} {} {}", totals.harvested, totals.used, totals.lost)?;
@@ -104,5 +106,12 @@ fn main(rt: HostRuntime) -> Result<(), Failure> {
         end: 2,
     };
     let first = shift::start(Request { figures, lists })?;
-    run(&rt, first, lists, &[1, 5, 2, 0, 10, 4], &mut [0; 6])
+    let outlook = Outlook {
+        harvest: lists.harvest,
+        wanted: Wanted {
+            least: lists.least,
+            most: lists.most,
+        },
+    };
+    run(&rt, first, outlook, &[1, 5, 2, 0, 10, 4], &mut [0; 6])
 }

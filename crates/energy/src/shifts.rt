@@ -1,8 +1,9 @@
 // The running shift, for C.
 ghost use Rattle.std.specs.Prelude.{length};
 ghost use Rattle.model.specs.Request.{bounded_request};
+ghost use Rattle.shift.specs.Shift.{typed};
 ghost use Rattle.shift.specs.Says.{StartSays, RecordSays};
-ghost use Rattle.rest.specs.Rest.{lists};
+ghost use Rattle.rest.specs.Rest.{outlook};
 ghost use Rattle.rest.specs.Says.{PartIs, RestSays};
 ghost use Rattle.energy.specs.Through.{Through};
 ghost use Rattle.answers.specs.Flat.{rest_flat, shift_told};
@@ -10,8 +11,8 @@ ghost use Rattle.energy.specs.Part.{part_flat};
 
 use answers::{EnergyRefusal, EnergyRestAnswer, EnergyShiftAnswer};
 use model::{Figures, Lists, Request};
-use rest::{plan_rest, rest_part};
-use shift::Shift;
+use rest::{Outlook, Wanted, plan_rest, rest_part};
+use shift::{Shift, Typed};
 
 // The part of the budgets that is left: its first entry's index, and its length.
 #[repr(C)]
@@ -44,9 +45,10 @@ pub extern "C" fn energy_shift_start(
 // Records the next frame's harvest and use.
 #[unsafe(no_mangle)]
 pub extern "C" fn energy_shift_record(shift: Shift, harvest: u32, used: u32) -> EnergyShiftAnswer
-    ensures { RecordSays shift harvest used (shift_told result) }
+    ensures { RecordSays shift (typed harvest used) (shift_told result) }
 {
-    EnergyShiftAnswer::recorded(shift, shift.record(harvest, used))
+    let typed = Typed { harvest, used };
+    EnergyShiftAnswer::recorded(shift, shift.record(typed))
 }
 
 // Plans the frames not yet recorded by the harvests, leasts and mosts lent.
@@ -59,16 +61,15 @@ pub extern "C" fn energy_shift_plan_rest(
     budgets: &mut [u32],
 ) -> EnergyRestAnswer
     ensures { Through
-        (RestSays shift (lists harvest.now least.now most.now)
+        (RestSays shift (outlook harvest.now least.now most.now)
         budgets.old budgets.new)
         rest_flat result }
 {
-    let lists = Lists {
+    let outlook = Outlook {
         harvest,
-        least,
-        most,
+        wanted: Wanted { least, most },
     };
-    plan_rest(shift, lists, budgets).into()
+    plan_rest(shift, outlook, budgets).into()
 }
 
 // Where the part of the budgets that begins at the next frame lies: an exported function returns no reference. Beside

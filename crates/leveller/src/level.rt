@@ -14,10 +14,10 @@ const ROUNDS: u64 = 6;
 // The highest level, at which every frame draws its most.
 const TOP: u64 = u32::MAX as u64;
 
-// The level, if the first frames can draw it. What there is to draw is reckoned from the rule's figures: no frame of
-// today has a drain. Frames and start charge are two parameters, as at certifier's `Draft`.
+// The level, if the first frames can draw it. What there is to draw is reckoned from the rule's figures: no
+// frame that `Frames::at` makes has a drain. Frames and start charge are two parameters, as at certifier's `Draft`.
 pub fn one_level(frames: Frames, start: u64) -> Option<u32> {
-    let all = frames.rule.energy.saturating_sub(frames.rule.end);
+    let all = frames.rule.store.energy.saturating_sub(frames.rule.end);
     let level = shared_level(frames.lists, all);
     lasts_at_first(frames, start, level).then_some(low_bits(level))
 }

@@ -21,7 +21,7 @@ fn peak_in<const N: usize>(task: Task) -> u64
 }
 
 impl Task<'_> {
-    // The greatest charge that the plan requires after any frame.
+    // The least capacity with which every frame can spend its budget and carry on what is required after it.
     pub fn peak(self) -> u64
         ensures { PeakOf self.entry result }
     {

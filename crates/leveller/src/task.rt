@@ -6,7 +6,8 @@ ghost use Rattle.certifier.specs.Able.{Startable-prop};
 ghost use Rattle.certifier.specs.Says.{frame_count};
 
 use certifier::{Frames, Rule};
-use model::{Lists, Request};
+use model::{Request, Store};
+use request::most_energy;
 
 // Frames that can be planned from a start charge, no more of them than there may be.
 #[derive(Clone, Copy)]
@@ -20,35 +21,46 @@ pub struct Task<'a> {
 
 impl<'a> Task<'a> {
     ghost use Rattle.std.specs.Prelude.{◌≡◌};
+    ghost use Rattle.model.specs.Answer.{asked};
+    ghost use Rattle.model.specs.Request.{most_energy};
+    ghost use Rattle.model.specs.Plan.{boundless};
     ghost use Rattle.leveller.specs.Plan.{Ready};
+    ghost use Rattle.leveller.specs.Says.{TaskOf};
 
-    // Lists to be planned by a rule. No budget is above `rule.energy`, the most of a frame that has no upper end.
-    pub fn of(rule: Rule, lists: Lists<'a>, start: u64) -> Task<'a>
-        requires { Ready rule.capacity start rule.end rule.energy lists.harvest.now lists.least.now lists.most.now }
-        ensures { (result.frames.rule ≡ rule) × (result.frames.lists ≡ lists.entry) × (result.start ≡ start) }
-    {
-        Task {
-            frames: Frames::of(rule, lists),
-            start,
-        }
-    }
-
-    // A request to be planned as its figures say. No budget is above `energy`, the most of a frame that has no upper
-    // end.
-    pub fn of_request(request: Request<'a>, energy: u64) -> Task<'a>
-        requires { Ready request.figures.capacity request.figures.start request.figures.end energy
-            request.lists.harvest.now request.lists.least.now request.lists.most.now }
-        ensures rule { result.frames.rule ≡
-            record { capacity = request.entry.figures.capacity; end = request.entry.figures.end; energy = energy } }
-        ensures lists { result.frames.lists ≡ request.entry.lists }
-        ensures start { result.start ≡ request.entry.figures.start }
+    // A request to be planned, were its capacity this. The energy is given because whoever calls has it.
+    fn with(request: Request<'a>, capacity: u64, energy: u64) -> Task<'a>
+        requires { Ready request capacity × (energy ≡ most_energy (asked request)) }
+        ensures { TaskOf request.entry capacity result }
     {
         let Request { figures, lists } = request;
         let rule = Rule {
-            capacity: figures.capacity as u64,
+            store: Store { capacity, energy },
             end: figures.end as u64,
-            energy,
         };
-        Task::of(rule, lists, figures.start as u64)
+        Task {
+            frames: Frames::of(rule, lists),
+            start: figures.start as u64,
+        }
+    }
+
+    // A request to be planned as its figures say.
+    pub fn of(request: Request<'a>) -> Task<'a>
+        requires { Ready request request.figures.capacity }
+        ensures { TaskOf request.entry request.entry.figures.capacity result }
+    {
+        Task::with(
+            request,
+            request.figures.capacity as u64,
+            most_energy(request) as u64,
+        )
+    }
+
+    // A request to be planned without limit, with a capacity that no charge meets.
+    pub fn open(request: Request<'a>) -> Task<'a>
+        requires { Ready request (boundless (asked request)) }
+        ensures { TaskOf request.entry (boundless (asked request.entry)) result }
+    {
+        let energy = most_energy(request) as u64;
+        Task::with(request, energy + request.figures.end as u64, energy)
     }
 }

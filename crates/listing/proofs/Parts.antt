@@ -2,11 +2,11 @@
 use mathlib.Core.Path.{◌≡◌, refl, ap, ◌∙◌}
 use mathlib.Core.Bool.{true}
 use mathlib.Core.List.{List, [], ◌∷◌, ◌++◌, map}
-use Prim.Native.Nat.{ℕ, ◌-◌, ◌≤◌}
+use Prim.Native.Nat.{ℕ, ◌≤◌}
 use native.Mathlib.Omega.{arith}
 use borrow.Author.Tests.{le-ltb}
 use lib.IntN.{ℤ, pos}
-use lib.ListN.{length, take, replicate, length-take, length-replicate}
+use lib.ListN.{length}
 use Rattle.model.specs.Refusals.{Refusal}
 use Rattle.model.specs.Limits.{max_frames, max_capacity}
 use Rattle.model.specs.Request.{Request, frame_count}
@@ -35,14 +35,15 @@ pub record Accepted (q : Request) (l m : ℕ) : Type 0 where
   pub charges : trace q (plan_of q) ≡ map pos (charges q (plan_of q))
   pub losses : trace_losses q (plan_of q) ≡ losses q (plan_of q)
 
-pub accepted : (q : Request) (l m n : ℕ) → is_none (plan_refusal q l m n) ≡ true → Accepted q l m
-accepted q l m n e =
-    let w = plan_within q l m n e in
+pub accepted : (q : Request) (l m : ℕ) (ns : List ℕ) → is_none (plan_refusal q l m ns) ≡ true → Accepted q l m
+accepted q l m ns e =
+    let w = plan_within q l m ns e in
     let g = w.served.figures in
     let k = frame_count q in
-    let a = both_none (R.lent_refusals k l m) (R.wrong_length k n ∷ R.served_refusals q)
-    (first_none (R.plan_refusals q l m n) e) in
-    let b = both_none (R.figure_refusals q) (R.bound_refusals q) a.1.1 in
+    let a = both_none (R.lent_refusals k l m) (map (R.wrong_length k) ns ++ R.served_refusals q)
+    (first_none (R.plan_refusals q l m ns) e) in
+    let c = both_none (map (R.wrong_length k) ns) (R.served_refusals q) a.1 in
+    let b = both_none (R.figure_refusals q) (R.bound_refusals q) c.1 in
     let o = first_none (R.out_of_reach q ∷ R.leasts_refused_unlimited q ∷ []) (open_reach q w.served.reach) in
     let f = (plan_is q g.start_fits g.end_fits w.served.reach).is_feasible in
     let d = feasible_drawable q (plan_of q) f in
@@ -86,7 +87,3 @@ module _ (q : Request) (l m : ℕ) (w : Accepted q l m) (bs : List ℕ) (b : bs 
     shown_is n s z d =
         let e : amounts ys ≡ charges q (plan_of q) = ap amounts charges_are ∙ amounts_pos (charges q (plan_of q)) in
         rw (e, losses_are, d, z, b) refl
-
--- the front of a list with room for every frame
-pub part_long : {A : Type 0} (k : ℕ) (v : A) → k ≤ max_frames → length (take (k - 0) (replicate max_frames v)) ≡ k
-part_long k v h = omega (arith, length-take (k - 0) (replicate max_frames v), length-replicate max_frames v)

@@ -1,22 +1,22 @@
 -- A file that is read has its request's listing, one that is not has the reader's refusal; what listing promises
 -- follows from the text.
 use mathlib.Core.Path.{◌≡◌, refl, sym, ap, subst, ◌∙◌}
-use mathlib.Core.Bool.{true, false}
+use mathlib.Core.Bool.{true}
 use mathlib.Core.List.{List}
 use Prim.Native.Nat.{ℕ, ◌≤◌}
 use native.Mathlib.Omega.{arith}
 use lib.ListN.{length, take, drop}
 use lib.Seq.{take_at}
-use Rattle.std.specs.Prelude.{Result, Ok, Err}
+use Rattle.std.specs.Prelude.{Result, Ok}
 use Rattle.model.specs.declared.refusal.Refusal.{Refusal as Given}
-use Rattle.model.specs.Answer.{told, said}
+use Rattle.model.specs.Answer.{said}
 use Rattle.model.specs.Refusals.{Refusal}
 use Rattle.model.specs.Lent.{over}
 use Rattle.model.specs.Limits.{max_frames}
 use Rattle.model.specs.Request.{bounded_request}
 use Rattle.model.specs.Refusals.{is_none}
 use Rattle.model.proofs.Choice.{pick_by}
-use Rattle.model.proofs.Outcome.{gave, refused}
+use Rattle.model.proofs.Outcome.{gave}
 use Rattle.words.specs.Words.{words_of}
 use Rattle.wordfile.specs.File.{harvests_in, leasts_in, mosts_in, request_in, read_refusal}
 use Rattle.wordfile.specs.Says.{ReadSays, read_refused, filled, header_of}
@@ -66,16 +66,6 @@ module _ {s h l m h' l' m' : List ℕ} {r : Result Header Given} (w : ReadSays s
         omega arith,
         rw (hs, ls, ms, u) (sym (pick_by (is_none f) true (request_text q) (refused_line f) n)),
       )
-
-  -- refused: the listing is the refusal's line
-  pub is_unread : (x : Given) → r ≡ Err x → refused_line (told x) ≡ listing s
-  is_unread x e =
-      let f = told x in
-      let g = read_refusal s max_frames max_frames max_frames in
-      let p = refused (read_refused s h l m) (header_of (request_in s)) f (sym (ap said e) ∙ w.answer) in
-      let k : f ≡ g = p.1 ∙ same_refusal in
-      let n : is_none g ≡ false = ap is_none (sym same_refusal) ∙ p.0 in
-      ap refused_line k ∙ sym (pick_by (is_none g) false (request_text (request_in s)) (refused_line g) n)
 
 -- the same text, told otherwise
 pub same_text : (p q : Page) (r : Result (Unit {0}) Given) {x y : List ℕ} → x ≡ y → AddsOrRefuses x p q r →

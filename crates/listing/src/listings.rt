@@ -1,5 +1,5 @@
 // The listing of a word file.
-ghost use Rattle.std.specs.Prelude.{◌≡◌, true, length};
+ghost use Rattle.std.specs.Prelude.{◌≡◌, true, [], ◌∷◌, length};
 ghost use Rattle.model.specs.Answer.{asked, leasts_lent, mosts_lent};
 ghost use Rattle.model.specs.Refusals.{is_none, plan_refusal};
 ghost use Rattle.text.specs.Page.{Adds};
@@ -27,7 +27,7 @@ fn put_plan(
     losses: &mut [u32],
 )
     requires not_refused { is_none (plan_refusal (asked request) (leasts_lent request) (mosts_lent request)
-        (length budgets.old)) ≡ true }
+        (length budgets.old ∷ [])) ≡ true }
     requires charges_len { length charges.old ≡ length request.lists.harvest.now }
     requires losses_len { length losses.old ≡ length request.lists.harvest.now }
     ensures { Adds (plan_text (asked request.entry)) page.old page.new }

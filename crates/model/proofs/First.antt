@@ -2,11 +2,9 @@
 use mathlib.Core.Path.{◌≡◌, refl, sym, ap, ◌∙◌}
 use mathlib.Core.Bool.{Bool, true, false, false≢true}
 use mathlib.Core.List.{List, [], ◌∷◌, ◌++◌}
-use Prim.Native.Nat.{ℕ}
-use borrow.Author.Tests.{eqb-true}
 use Rattle.model.specs.Refusals.{Refusal}
 use Rattle.model.specs.Choice.{pick}
-use Rattle.model.specs.Refusals.{refusal, none, is_none, refuse_if, first_of, AllNone}
+use Rattle.model.specs.Refusals.{none, is_none, first_of, AllNone}
 use Rattle.model.proofs.Choice.{pick_by}
 
 -- where the first refusal is none, each is
@@ -40,13 +38,6 @@ first_of_append (x ∷ xs) ys = go (is_none x) refl (first_of_append xs ys)
     go true e ih = ih
     go false e ih = sym (pick_by (is_none x) false (first_of ys) x e)
 
--- a refusal found in the first list stops there
-pub first_stopped : (xs ys : List Refusal) {f : Refusal} → f ≡ first_of xs → is_none f ≡ false → f ≡ first_of (xs ++ ys)
-first_stopped xs ys {f} p h =
-    p
-    ∙ sym (first_of_append xs ys
-    ∙ pick_by (is_none (first_of xs)) false (first_of ys) (first_of xs) (ap is_none (sym p) ∙ h))
-
 -- where it has none, the other list decides
 pub first_passed : (xs ys : List Refusal) {f g : Refusal} → f ≡ first_of xs → is_none f ≡ true → g ≡ first_of ys →
     g ≡ first_of (xs ++ ys)
@@ -55,6 +46,17 @@ first_passed xs ys {f} p h q =
     ∙ sym (first_of_append xs ys
     ∙ pick_by (is_none (first_of xs)) true (first_of ys) (first_of xs) (ap is_none (sym p) ∙ h))
 
+-- of two lists that begin alike, the first refusals are the same if they are where nothing of the beginning holds
+pub behind :
+    (fs gs hs : List Refusal) → (AllNone fs → first_of gs ≡ first_of hs) → first_of (fs ++ gs) ≡ first_of (fs ++ hs)
+behind fs gs hs h = first_of_append fs gs ∙ go (is_none (first_of fs)) refl ∙ sym (first_of_append fs hs)
+  where
+    go :
+        (t : Bool) → is_none (first_of fs) ≡ t →
+        pick t (first_of gs) (first_of fs) ≡ pick t (first_of hs) (first_of fs)
+    go true e = h (first_none fs e)
+    go false e = refl
+
 -- a list of one refusal gives that refusal, if its P is 0 where its number is
 pub first_of_one : (f : Refusal) → (is_none f ≡ true → f ≡ none) → first_of (f ∷ []) ≡ f
 first_of_one f h = go (is_none f) refl
@@ -62,22 +64,6 @@ first_of_one f h = go (is_none f) refl
     go : (t : Bool) → is_none f ≡ t → pick t none f ≡ f
     go true q = sym (h q)
     go false q = refl
-
--- the refusals made by a test are such
-pub refuse_if_none : (t : Bool) (n : ℕ) → is_none (refuse_if t n) ≡ true → refuse_if t n ≡ none
-refuse_if_none true n e = ap (λ (k : ℕ). refusal k 0) (eqb-true n 0 e)
-refuse_if_none false n e = refl
-
--- the first of two refusals computed is the first of what they are; in place of g' stands what the tail of a list
--- gives
-pub first_cons : {f f' g g' r : Refusal} → f ≡ f' → g ≡ g' → r ≡ pick (is_none f) g f → r ≡ pick (is_none f') g' f'
-first_cons {f} {f'} {g} {g'} p q e = e ∙ ap (λ (x : Refusal). pick (is_none x) g x) p
-    ∙ ap (λ (y : Refusal). pick (is_none f') y f') q
-
--- the same for a whole list before another
-pub first_append : (fs gs : List Refusal) {f g r : Refusal} → f ≡ first_of fs → g ≡ first_of gs →
-    r ≡ pick (is_none f) g f → r ≡ first_of (fs ++ gs)
-first_append fs gs p q e = first_cons p q e ∙ sym (first_of_append fs gs)
 
 -- the same for the last of a list
 pub first_last : {f f' : Refusal} → f ≡ f' → (is_none f' ≡ true → f' ≡ none) → f ≡ first_of (f' ∷ [])

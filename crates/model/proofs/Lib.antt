@@ -5,14 +5,15 @@ pub mod Choice
 pub mod Integers
 pub mod Tables
 pub mod Curves
+pub mod Withdrawn
 pub mod Trace
 pub mod Machine
 pub mod Losses
-pub mod Charged
 pub mod Feasibility
 pub mod Reserve
 pub mod Budget
 pub mod Plan
+pub mod Lengths
 pub mod Lowest
 pub mod Requirement
 pub mod Ceilings
@@ -24,6 +25,7 @@ pub mod Requests
 pub mod Needed
 pub mod Peak
 pub mod First
+pub mod Numbers
 pub mod Answer
 pub mod Refusals
 pub mod Outcome

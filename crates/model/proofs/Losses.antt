@@ -1,5 +1,5 @@
--- What charges and losses of a trace mean: no unit is left out, no charge is above the capacity, and only a full store
--- loses. No other lists have that meaning, and no frame loses more than its harvest.
+-- What charges and losses of a trace mean: no unit is left out, the store never holds more than its capacity, and only
+-- a full store loses. No other lists have that meaning, and no frame loses more than its harvest.
 use mathlib.Core.Path.{◌≡◌, refl, sym, ap, ◌∙◌}
 use mathlib.Core.List.{List, [], ◌∷◌}
 use Prim.Native.Nat.{ℕ, zero, suc, ◌+◌, ◌-◌, ◌≤◌, ◌<◌, min}
@@ -7,14 +7,15 @@ use native.Mathlib.Omega.{arith}
 use lib.ListN.{length, get_or, take, length-map}
 use lib.IntN.{ℤ, pos, negsuc, ◌+ℤ◌, ◌-ℤ◌, +ℤ_idr}
 use lib.Signed.{◌≤ℤ◌}
-use Rattle.model.specs.Request.{Request, total, frame_count}
-use Rattle.model.specs.Trace.{min_z, excess, at_hand_z, traced_end, trace_from, trace, trace_losses_from, trace_losses}
-use Rattle.model.specs.Trace.{traced_from, last_from, AccountedFrom, Accounted}
+use Rattle.model.specs.Request.{Request, total, frame_count, withdrawn}
+use Rattle.model.specs.Trace.{min_z, excess, at_hand_z, fullest, traced_end, trace_from, trace, trace_losses_from}
+use Rattle.model.specs.Trace.{trace_losses, traced_from, last_from, AccountedFrom, Accounted}
 use Rattle.model.specs.declared.frame.TracedEnd.{TracedEnd}
 use Rattle.model.proofs.Integers.{up, down, plus_parts, minus_parts, one_side, parts_eq, parts_le}
 use Rattle.model.proofs.Integers.{pos_le, le_pos, up_mono}
 use Rattle.model.proofs.Machine.{ended}
 use Rattle.model.proofs.Trace.{min_pos}
+use Rattle.model.proofs.Withdrawn.{withdrawn_length}
 
 -- ---- one frame
 
@@ -40,18 +41,23 @@ frame_balance c x h b =
       plus_parts e.charge (pos (b + e.lost)),
     ))
 
--- a loss leaves the store full
-full_after : (c : ℕ) (z : ℤ) → 0 < excess z c → min_z (pos c) z ≡ pos c
-full_after c (pos n) l = min_pos c n ∙ ap pos (omega arith)
-full_after c (negsuc n) l = absurd (omega arith)
+-- the smaller of the capacity and a whole number is not above it
+min_within : (c : ℕ) (z : ℤ) → min_z (pos c) z ≤ℤ pos c
+min_within c (pos n) = rw (min_pos c n) (pos_le (min c n) c (omega arith))
+min_within c (negsuc n) = parts_le (negsuc n) (pos c) (omega arith)
 
--- a frame leaves no charge above the capacity
-after_within_capacity : (c : ℕ) (x : ℤ) (h b : ℕ) → (traced_end c x h b).charge ≤ℤ pos c
-after_within_capacity c x h b = go (at_hand_z c x h -ℤ pos b)
-  where
-    go : (z : ℤ) → min_z (pos c) z ≤ℤ pos c
-    go (pos n) = rw (min_pos c n) (pos_le (min c n) c (omega arith))
-    go (negsuc n) = parts_le (negsuc n) (pos c) (omega arith)
+-- and is the capacity where something exceeds it
+min_full : (c : ℕ) (z : ℤ) → 0 < excess z c → min_z (pos c) z ≡ pos c
+min_full c (pos n) l = min_pos c n ∙ ap pos (omega arith)
+min_full c (negsuc n) l = absurd (omega arith)
+
+-- the store never holds more than its capacity
+after_within_capacity : (c : ℕ) (x : ℤ) (h b : ℕ) → fullest (traced_end c x h b).charge b ≤ℤ pos c
+after_within_capacity c x h b = min_within c (at_hand_z c x h -ℤ pos b)
+
+-- a store that loses is full
+full_after : (c : ℕ) (x : ℤ) (h b : ℕ) → 0 < (traced_end c x h b).lost → fullest (traced_end c x h b).charge b ≡ pos c
+full_after c x h b l = min_full c (at_hand_z c x h -ℤ pos b) l
 
 pub part_within_capacity : (c : ℕ) (x : ℤ) (h b : ℕ) → up (traced_end c x h b).charge ≤ c
 part_within_capacity c x h b = up_mono (traced_end c x h b).charge (pos c) (after_within_capacity c x h b)
@@ -75,9 +81,9 @@ lost_within_harvest c x h b l =
     excess_is (pos n) = refl
     excess_is (negsuc n) = omega arith
 
--- charge and loss that balance, the charge within the capacity and full where something is lost, are the frame's end
-frame_only : (c : ℕ) (x : ℤ) (h b : ℕ) (z : ℤ) (l : ℕ) → x +ℤ pos h ≡ z +ℤ pos (b + l) → z ≤ℤ pos c →
-    (0 < l → z ≡ pos c) → ended z l ≡ traced_end c x h b
+-- charge and loss that balance, the store within the capacity and full where something is lost, are the frame's end
+frame_only : (c : ℕ) (x : ℤ) (h b : ℕ) (z : ℤ) (l : ℕ) → x +ℤ pos h ≡ z +ℤ pos (b + l) → fullest z b ≤ℤ pos c →
+    (0 < l → fullest z b ≡ pos c) → ended z l ≡ traced_end c x h b
 frame_only c x h b z l p m f =
     let w = at_hand_z c x h -ℤ pos b in
     let above : up (x +ℤ pos h) ≡ up (z +ℤ pos (b + l)) = ap up p in
@@ -141,19 +147,21 @@ balanced_from c x (suc n) (h ∷ hs) (b ∷ bs) l =
     (total (take n bs)) e.lost (total (take n (trace_losses_from c e.charge hs bs))) (frame_balance c x h b)
     (balanced_from c e.charge n hs bs (omega arith))
 
--- has no charge above the capacity
-within_from : (c : ℕ) (x : ℤ) (hs bs : List ℕ) (i : ℕ) → get_or (trace_from c x hs bs) i (pos 0) ≤ℤ pos c
-within_from c x [] bs i = pos_le 0 c (omega arith)
-within_from c x (h ∷ hs) [] i = pos_le 0 c (omega arith)
-within_from c x (h ∷ hs) (b ∷ bs) zero = after_within_capacity c x h b
-within_from c x (h ∷ hs) (b ∷ bs) (suc i) = within_from c (traced_end c x h b).charge hs bs i
+-- never holds more than its capacity
+within_from : (c : ℕ) (x : ℤ) (hs bs : List ℕ) → length bs ≡ length hs → (i : ℕ) →
+    fullest (get_or (trace_from c x hs bs) i (pos 0)) (get_or bs i 0) ≤ℤ pos c
+within_from c x [] [] l i = pos_le 0 c (omega arith)
+within_from c x [] (b ∷ bs) l i = absurd (omega arith)
+within_from c x (h ∷ hs) [] l i = absurd (omega arith)
+within_from c x (h ∷ hs) (b ∷ bs) l zero = after_within_capacity c x h b
+within_from c x (h ∷ hs) (b ∷ bs) l (suc i) = within_from c (traced_end c x h b).charge hs bs (omega arith) i
 
 -- loses only where the store is full
 full_from : (c : ℕ) (x : ℤ) (hs bs : List ℕ) (i : ℕ) → 0 < get_or (trace_losses_from c x hs bs) i 0 →
-    get_or (trace_from c x hs bs) i (pos 0) ≡ pos c
+    fullest (get_or (trace_from c x hs bs) i (pos 0)) (get_or bs i 0) ≡ pos c
 full_from c x [] bs i l = absurd (omega arith)
 full_from c x (h ∷ hs) [] i l = absurd (omega arith)
-full_from c x (h ∷ hs) (b ∷ bs) zero l = full_after c (at_hand_z c x h -ℤ pos b) l
+full_from c x (h ∷ hs) (b ∷ bs) zero l = full_after c x h b l
 full_from c x (h ∷ hs) (b ∷ bs) (suc i) l = full_from c (traced_end c x h b).charge hs bs i l
 
 -- and has an end for each frame
@@ -171,13 +179,14 @@ accounted_from c x hs bs l =
       charges_long = length-map es (λ (e : TracedEnd). e.charge) ∙ long_from c x hs bs l;
       losses_long = length-map es (λ (e : TracedEnd). e.lost) ∙ long_from c x hs bs l;
       balanced = λ n. balanced_from c x n hs bs l;
-      within = within_from c x hs bs;
+      within = within_from c x hs bs l;
       full = full_from c x hs bs;
     }
 
 pub trace_accounted : (r : Request) (bs : List ℕ) → length bs ≡ frame_count r →
     Accounted r bs (trace r bs) (trace_losses r bs)
-trace_accounted r bs l = accounted_from r.figures.capacity (pos r.figures.start) r.harvest bs l
+trace_accounted r bs l =
+    accounted_from r.figures.capacity (pos r.figures.start) r.harvest (withdrawn r bs) (withdrawn_length r bs ∙ l)
 
 -- and no other lists do
 only_from : (c : ℕ) (x : ℤ) (hs bs : List ℕ) (zs : List ℤ) (ls : List ℕ) → length bs ≡ length hs →
@@ -210,7 +219,7 @@ only_from c x (h ∷ hs) (b ∷ bs) (z ∷ zs) (l ∷ ls) k a =
 pub accounted_only : (r : Request) (bs : List ℕ) (zs : List ℤ) (ls : List ℕ) → length bs ≡ frame_count r →
     Accounted r bs zs ls → (zs ≡ trace r bs) × (ls ≡ trace_losses r bs)
 accounted_only r bs zs ls l a =
-    only_from r.figures.capacity (pos r.figures.start) r.harvest bs zs ls l a
+    only_from r.figures.capacity (pos r.figures.start) r.harvest (withdrawn r bs) zs ls (withdrawn_length r bs ∙ l) a
 
 -- no frame loses more than its harvest
 lost_from : (c : ℕ) (x : ℤ) (hs bs : List ℕ) → up x ≤ c → (i : ℕ) →
@@ -223,4 +232,4 @@ lost_from c x (h ∷ hs) (b ∷ bs) l (suc i) =
 
 pub losses_within : (r : Request) (bs : List ℕ) → r.figures.start ≤ r.figures.capacity → (i : ℕ) →
     get_or (trace_losses r bs) i 0 ≤ get_or r.harvest i 0
-losses_within r bs l = lost_from r.figures.capacity (pos r.figures.start) r.harvest bs l
+losses_within r bs l = lost_from r.figures.capacity (pos r.figures.start) r.harvest (withdrawn r bs) l

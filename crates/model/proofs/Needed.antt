@@ -4,18 +4,20 @@ use mathlib.Core.Bool.{Bool, true, false}
 use mathlib.Core.List.{List, [], ◌∷◌}
 use lib.IntN.{ℤ, pos}
 use lib.Signed.{◌≤ℤ◌}
-use Prim.Native.Nat.{ℕ, ◌+◌, ◌-◌, ◌≤◌, min, max}
+use Prim.Native.Nat.{ℕ, ◌+◌, ◌≤◌, min, max}
 use native.Mathlib.Nat.{le_refl}
 use native.Mathlib.Omega.{arith}
 use lib.Dec.{eqb}
+use Rattle.model.specs.declared.Store.{Store}
 use Rattle.model.specs.Choice.{pick}
 use Rattle.model.specs.Limits.{no_upper_end}
-use Rattle.model.specs.Request.{Bounds, absent, Request, later_bounds, total, most_energy, with_capacity}
+use Rattle.model.specs.Request.{Bounds, absent, Request, first_bounds, later_bounds, total, most_energy, with_capacity}
 use Rattle.model.specs.Charge.{feasible, feasible_unlimited}
 use Rattle.model.specs.Refusals.{reachable, reachable_unlimited}
 use Rattle.model.specs.Reward.{Qualifies, earned, BestReward, Serves, IsNeeded}
-use Rattle.model.specs.Frames.{Feasible, served, requirement, peak}
-use Rattle.model.specs.Plan.{most_of, frames_of, frames_with, plan_of, boundless, open_plan, needed_of}
+use Rattle.model.specs.Frames.{Feasible, served, requirement}
+use Rattle.model.specs.Plan.{most_of, ceiling_of, capacity_for, frame_of, frames_of, store_of, frames_with, plan_of}
+use Rattle.model.specs.Plan.{boundless, open_plan, peak, needed_of}
 use Rattle.model.specs.Demands.{NeededDemand}
 use Rattle.model.proofs.Integers as int
 use Rattle.model.proofs.Tables.{level_qualifies}
@@ -26,19 +28,25 @@ use Rattle.model.proofs.Reach.{feasible_spent, unlimited_storage, reachable_unli
 use Rattle.model.proofs.Requests.{earns_serves, plan_serves, plan_feasible, plan_feasible_by, plan_is}
 use Rattle.model.proofs.Requests.{over_frames, from_frames}
 
+-- the same store with another capacity
+abbrev resized : ℕ → Store → Store
+resized c s = record s { capacity = c }
+
 -- frames of two capacities differ in their ceilings alone
-frames_other : (c d m : ℕ) (hs : List ℕ) (ws : List Bounds) → OtherCeilings (frames_of c m hs ws) (frames_of d m hs ws)
+frames_other : (s : Store) (c d : ℕ) (hs : List ℕ) (ws : List Bounds) →
+    OtherCeilings (frames_of (resized c s) hs ws) (frames_of (resized d s) hs ws)
 unfolding frames_of
-frames_other c d m [] ws = tt
-frames_other c d m (h ∷ hs) ws = (
+frames_other s c d [] ws = tt
+frames_other s c d (h ∷ hs) ws = (
   record { same_inflow = refl; same_drain = refl; same_least = refl; same_most = refl },
-  frames_other c d m hs (later_bounds ws),
+  frames_other s c d hs (later_bounds ws),
 )
 
-frames_open : (c m y : ℕ) (hs : List ℕ) (ws : List Bounds) → y + total hs ≤ c → Open y (frames_of c m hs ws)
+frames_open : (s : Store) (y : ℕ) (hs : List ℕ) (ws : List Bounds) → y + total hs ≤ s.capacity →
+    Open y (frames_of s hs ws)
 unfolding frames_of
-frames_open c m y [] ws h = tt
-frames_open c m y (x ∷ hs) ws h = (omega arith, frames_open c m (y + x) hs (later_bounds ws) (omega arith))
+frames_open s y [] ws h = tt
+frames_open s y (x ∷ hs) ws h = (omega arith, frames_open s (y + x) hs (later_bounds ws) (omega arith))
 
 -- a number that no most of the bounds is above
 abbrev mosts_total : List Bounds → ℕ
@@ -52,72 +60,69 @@ most_within m n w p = go (eqb w.most no_upper_end)
     go true = omega arith
     go false = omega arith
 
-frames_mosts : (c m n : ℕ) (hs : List ℕ) (ws : List Bounds) → no_upper_end + mosts_total ws ≤ n →
-    MostsWithin (m + n) (frames_of c m hs ws)
+frames_mosts : (s : Store) (n : ℕ) (hs : List ℕ) (ws : List Bounds) → no_upper_end + mosts_total ws ≤ n →
+    MostsWithin (s.energy + n) (frames_of s hs ws)
 unfolding frames_of
-frames_mosts c m n [] ws p = tt
-frames_mosts c m n (h ∷ hs) [] p = (most_within m n absent (omega arith), frames_mosts c m n hs [] p)
-frames_mosts c m n (h ∷ hs) (w ∷ ws) p = (most_within m n w (omega arith), frames_mosts c m n hs ws (omega arith))
+frames_mosts s n [] ws p = tt
+frames_mosts s n (h ∷ hs) [] p = (most_within s.energy n absent (omega arith), frames_mosts s n hs [] p)
+frames_mosts s n (h ∷ hs) (w ∷ ws) p = (most_within s.energy n w (omega arith), frames_mosts s n hs ws (omega arith))
 
--- ceilings of capacity d leave no requirement above d
-rest_at_most : (e d m : ℕ) (hs : List ℕ) (ws : List Bounds) (bs : List ℕ) → e ≤ d → Fits e (frames_of d m hs ws) bs →
-    requirement e (frames_of d m hs ws) bs ≤ d
-unfolding frames_of requirement
-rest_at_most e d m [] ws bs h k = h
-rest_at_most e d m (x ∷ hs) ws [] h k = absurd k
-rest_at_most e d m (x ∷ hs) ws (b ∷ bs) h k = omega (arith, k.0.holds)
+-- capacity_for is the least capacity whose ceiling is high enough
+held_capacity : (n c h : ℕ) → n ≤ ceiling_of c h → capacity_for n h ≤ c
+held_capacity n c h p = omega arith
 
--- Ceilings of capacity d hold what a list requires exactly when no rest requires more than d.
-holds_peak : (e d m : ℕ) (hs : List ℕ) (ws : List Bounds) (bs : List ℕ) → e ≤ d → Fits e (frames_of d m hs ws) bs →
-    peak e (frames_of d m hs ws) bs ≤ d
-unfolding frames_of peak requirement
-holds_peak e d m [] ws bs h k = omega arith
-holds_peak e d m (x ∷ hs) ws [] h k = absurd k
-holds_peak e d m (x ∷ hs) ws (b ∷ bs) h k =
-    let fs = frames_of d m hs (later_bounds ws) in
-    max_within (requirement e fs bs) (peak e fs bs) d (rest_at_most e d m hs (later_bounds ws) bs h k.1)
-    (holds_peak e d m hs (later_bounds ws) bs h k.1)
+capacity_holds : (n c h : ℕ) → capacity_for n h ≤ c → n ≤ ceiling_of c h
+capacity_holds n c h p = omega arith
+
+-- so a capacity that holds what a list requires is at least the list's peak
+holds_peak : (s : Store) (e : ℕ) (hs : List ℕ) (ws : List Bounds) (bs : List ℕ) → Fits e (frames_of s hs ws) bs →
+    peak e (frames_of s hs ws) bs ≤ s.capacity
+unfolding frames_of peak
+holds_peak s e [] ws bs k = omega arith
+holds_peak s e (h ∷ hs) ws [] k = absurd k
+holds_peak s e (h ∷ hs) ws (b ∷ bs) k =
+    let f = frame_of s h (first_bounds ws) in
+    let fs = frames_of s hs (later_bounds ws) in
+    let n = f.drain + b + requirement e fs bs in
+    max_within (capacity_for n h) (peak e fs bs) s.capacity (held_capacity n s.capacity h k.0.holds)
+    (holds_peak s e hs (later_bounds ws) bs k.1)
   where
     max_within : (a b d : ℕ) → a ≤ d → b ≤ d → max a b ≤ d
     max_within a b d p q = omega arith
 
 -- the peak does not look at ceilings
-peak_same : (e c d m : ℕ) (hs : List ℕ) (ws : List Bounds) (bs : List ℕ) →
-    peak e (frames_of c m hs ws) bs ≡ peak e (frames_of d m hs ws) bs
+peak_same : (s : Store) (e c d : ℕ) (hs : List ℕ) (ws : List Bounds) (bs : List ℕ) →
+    peak e (frames_of (resized c s) hs ws) bs ≡ peak e (frames_of (resized d s) hs ws) bs
 unfolding frames_of peak
-peak_same e c d m [] ws bs = refl
-peak_same e c d m (h ∷ hs) ws [] = refl
-peak_same e c d m (h ∷ hs) ws (b ∷ bs) =
+peak_same s e c d [] ws bs = refl
+peak_same s e c d (h ∷ hs) ws [] = refl
+peak_same s e c d (h ∷ hs) ws (b ∷ bs) =
     let us = later_bounds ws in
     rw (
-      requirement_same e (frames_of d m hs us) (frames_of c m hs us) bs (frames_other d c m hs us),
-      peak_same e c d m hs us bs,
+      requirement_same e (frames_of (resized d s) hs us) (frames_of (resized c s) hs us) bs (frames_other s d c hs us),
+      peak_same s e c d hs us bs,
     ) refl
 
--- and a capacity at least the requirement and the peak holds the list
-peak_holds : (e c d m : ℕ) (hs : List ℕ) (ws : List Bounds) (bs : List ℕ) → Fits e (frames_of c m hs ws) bs →
-    requirement e (frames_of c m hs ws) bs ≤ d → peak e (frames_of c m hs ws) bs ≤ d → Fits e (frames_of d m hs ws) bs
-unfolding frames_of peak requirement
-peak_holds e c d m [] ws [] k p q = tt
-peak_holds e c d m [] ws (b ∷ bs) k p q = absurd k
-peak_holds e c d m (h ∷ hs) ws [] k p q = absurd k
-peak_holds e c d m (h ∷ hs) ws (b ∷ bs) k p q =
+-- and a capacity at least the peak holds the list
+peak_holds : (s : Store) (e c d : ℕ) (hs : List ℕ) (ws : List Bounds) (bs : List ℕ) →
+    Fits e (frames_of (resized c s) hs ws) bs → peak e (frames_of (resized c s) hs ws) bs ≤ d →
+    Fits e (frames_of (resized d s) hs ws) bs
+unfolding frames_of peak
+peak_holds s e c d [] ws [] k q = tt
+peak_holds s e c d [] ws (b ∷ bs) k q = absurd k
+peak_holds s e c d (h ∷ hs) ws [] k q = absurd k
+peak_holds s e c d (h ∷ hs) ws (b ∷ bs) k q =
     let us = later_bounds ws in
-    let s = requirement_same e (frames_of c m hs us) (frames_of d m hs us) bs (frames_other c d m hs us) in
-    let u = left_max (requirement e (frames_of c m hs us) bs) (peak e (frames_of c m hs us) bs) d q in (
-      record {
-        low = k.0.low;
-        high = k.0.high;
-        holds = rw s (holds_sum b (requirement e (frames_of c m hs us) bs) h d p);
-      },
-      peak_holds e c d m hs us bs k.1 u.0 u.1,
+    let fs = frames_of (resized c s) hs us in
+    let n = (frame_of s h (first_bounds ws)).drain + b + requirement e fs bs in
+    let i = requirement_same e fs (frames_of (resized d s) hs us) bs (frames_other s c d hs us) in
+    let u = left_max (capacity_for n h) (peak e fs bs) d q in (
+      record { low = k.0.low; high = k.0.high; holds = rw i (capacity_holds n d h u.0) },
+      peak_holds s e c d hs us bs k.1 u.1,
     )
   where
     left_max : (a b d : ℕ) → max a b ≤ d → (a ≤ d) × (b ≤ d)
     left_max a b d p = (omega arith, omega arith)
-
-    holds_sum : (b q h d : ℕ) → 0 + b + q - h ≤ d → 0 + b + q ≤ d + h
-    holds_sum b q h d p = omega arith
 
 -- each capacity that no charge can exceed serves every table
 unlimited_serves : (r : Request) (c : ℕ) → most_energy r ≤ c → Serves r c
@@ -179,16 +184,15 @@ module _ (r : Request) (open_reach : reachable_unlimited r ≡ true) where
   open_plan_needed : feasible (with_capacity r (needed_of r)) (open_plan r) ≡ true
   open_plan_needed =
       let c = needed_of r in
-      let m = most_energy r in
       let e = r.figures.end in
+      let s = store_of r (boundless r) in
       let fs = frames_with r (boundless r) in
       let g = feasible_fits e r.figures.start fs (open_plan r) open_plan_frames in
-      let q : requirement e fs (open_plan r) ≤ c = omega (arith, needed_start, g.1) in
-      let s = requirement_same e fs (frames_with r c) (open_plan r)
-      (frames_other (boundless r) c m r.harvest r.bounds) in
+      let i = requirement_same e fs (frames_with r c) (open_plan r)
+      (frames_other s (boundless r) c r.harvest r.bounds) in
       from_frames (with_capacity r c) needed_start needed_end (open_plan r)
       (fits_feasible e r.figures.start (frames_with r c) (open_plan r)
-      (peak_holds e (boundless r) c m r.harvest r.bounds (open_plan r) g.0 q needed_peak) (rw s g.1))
+      (peak_holds s e (boundless r) c r.harvest r.bounds (open_plan r) g.0 needed_peak) (rw i g.1))
 
   needed_serves : Serves r (needed_of r)
   needed_serves f w v best =
@@ -226,21 +230,21 @@ module _ (r : Request) (open_reach : reachable_unlimited r ≡ true) where
 
   needed_least : (d : ℕ) → r.figures.start ≤ d → r.figures.end ≤ d → Serves r d → needed_of r ≤ d
   unfolding needed_of open_plan
-  needed_least d s e h =
-      let m = most_energy r in
+  needed_least d x e h =
+      let s = store_of r (boundless r) in
       let n = no_upper_end + mosts_total r.bounds in
       let q = plan_of (with_capacity r d) in
-      let k = over_frames (with_capacity r d) s e q (serves_feasible d s e h) in
-      let p = ceilings_serve r.figures.end (m + n) r.figures.start (frames_with r (boundless r)) (frames_with r d)
-      q (frames_other (boundless r) d m r.harvest r.bounds)
-      (frames_mosts (boundless r) m n r.harvest r.bounds (le_refl n))
-      (frames_open (boundless r) m r.figures.start r.harvest r.bounds (omega arith)) k
-      (serves_levels d s e h) in
-      let t = holds_peak r.figures.end d m r.harvest r.bounds (open_plan r) e
+      let k = over_frames (with_capacity r d) x e q (serves_feasible d x e h) in
+      let p = ceilings_serve r.figures.end (s.energy + n) r.figures.start (frames_with r (boundless r))
+      (frames_with r d) q (frames_other s (boundless r) d r.harvest r.bounds)
+      (frames_mosts s n r.harvest r.bounds (le_refl n))
+      (frames_open s r.figures.start r.harvest r.bounds (omega arith)) k
+      (serves_levels d x e h) in
+      let t = holds_peak (store_of r d) r.figures.end r.harvest r.bounds (open_plan r)
       (feasible_fits r.figures.end r.figures.start (frames_with r d) (open_plan r) p).0 in
       three r.figures.start r.figures.end
-      (peak r.figures.end (frames_with r (boundless r)) (open_plan r)) d s e
-      (rw (peak_same r.figures.end (boundless r) d m r.harvest r.bounds (open_plan r)) t)
+      (peak r.figures.end (frames_with r (boundless r)) (open_plan r)) d x e
+      (rw (peak_same s r.figures.end (boundless r) d r.harvest r.bounds (open_plan r)) t)
     where
       three : (a b c d : ℕ) → a ≤ d → b ≤ d → c ≤ d → max a (max b c) ≤ d
       three a b c d p q s = omega arith

@@ -11,7 +11,7 @@ use borrow.Author.Tests.{le-leb, leb-true, le-ltb}
 use Rattle.model.specs.Choice.{pick}
 use Rattle.model.specs.Limits.{no_upper_end}
 use Rattle.model.specs.Request.{Bounds, Request, request, first_bounds, later_bounds, leasts_from, leasts, total}
-use Rattle.model.specs.Request.{most_energy, with_capacity}
+use Rattle.model.specs.Request.{most_energy, due, withdrawn, with_capacity}
 use Rattle.model.specs.declared.Figures.{Figures}
 use Rattle.model.specs.Charge.{at_hand, frame_end, feasible_from, within_bounds, all_within, feasible}
 use Rattle.model.specs.Charge.{feasible_unlimited}
@@ -19,7 +19,8 @@ use Rattle.model.specs.Refusals.{refusal, none, is_none, refuse_if, first_of, ou
 use Rattle.model.specs.Refusals.{reachable_unlimited}
 use Rattle.model.proofs.Tests.{both}
 use Rattle.model.proofs.Tables.{WithinAll}
-use Rattle.model.proofs.Trace.{feasible_drawable, feasible_within}
+use Rattle.model.proofs.Trace.{feasible_drawable, feasible_within, feasible_length}
+use Rattle.model.proofs.Withdrawn.{withdrawn_total, Below, withdrawn_below}
 use Rattle.model.proofs.Bridge.{within_first, unlimited_from, feasible_unlimited_lem}
 
 -- budgets 0 keep as much as can be kept
@@ -39,9 +40,11 @@ spent c e x (h ∷ hs) (b ∷ bs) k =
     let i = spent c e (frame_end c x h b).charge hs bs t.1 in
     omega (arith, leb-true b (at_hand c x h) t.0)
 
-pub feasible_spent : (r : Request) (bs : List ℕ) → feasible r bs ≡ true → total bs + r.figures.end ≤ most_energy r
+pub feasible_spent : (r : Request) (bs : List ℕ) → feasible r bs ≡ true → total bs + due r ≤ most_energy r
 feasible_spent r bs k =
-    spent r.figures.capacity r.figures.end r.figures.start r.harvest bs (feasible_drawable r bs k)
+    let s = spent r.figures.capacity r.figures.end r.figures.start r.harvest (withdrawn r bs)
+    (feasible_drawable r bs k) in
+    omega (arith, s, withdrawn_total r bs (feasible_length r bs k))
 
 -- no number of a list is above its total
 pub total_within : (m : ℕ) (bs : List ℕ) → total bs ≤ m → WithinAll m bs
@@ -50,22 +53,35 @@ total_within m (b ∷ bs) p = (omega arith, total_within m bs (omega arith))
 
 -- ---- the leasts
 
--- where something can be drawn from charge x, the leasts can be drawn from any charge that is not lower
-leasts_from_lem : (c e x z : ℕ) (hs : List ℕ) (ws : List Bounds) (bs : List ℕ) → x ≤ z → all_within ws bs ≡ true →
-    feasible_from c e x hs bs ≡ true → feasible_from c e z hs (leasts_from hs ws) ≡ true
-leasts_from_lem c e x z [] ws [] p a k = le-leb e z (omega (arith, leb-true e x k))
-leasts_from_lem c e x z [] ws (b ∷ bs) p a k = absurd (false≢true k)
-leasts_from_lem c e x z (h ∷ hs) ws [] p a k = absurd (false≢true k)
-leasts_from_lem c e x z (h ∷ hs) ws (b ∷ bs) p a k =
-    let w = first_bounds ws in
+-- what can be drawn from charge x can, if each number is lowered, be drawn from any charge that is not lower
+less_drawn : (c e x z : ℕ) (hs ds bs : List ℕ) → x ≤ z → Below ds bs → feasible_from c e x hs bs ≡ true →
+    feasible_from c e z hs ds ≡ true
+less_drawn c e x z [] [] [] p a k = le-leb e z (omega (arith, leb-true e x k))
+less_drawn c e x z hs [] (b ∷ bs) p a k = absurd a
+less_drawn c e x z hs (d ∷ ds) [] p a k = absurd a
+less_drawn c e x z [] (d ∷ ds) (b ∷ bs) p a k = absurd (false≢true k)
+less_drawn c e x z (h ∷ hs) [] [] p a k = absurd (false≢true k)
+less_drawn c e x z (h ∷ hs) (d ∷ ds) (b ∷ bs) p a k =
     let t = both (leb b (at_hand c x h)) (feasible_from c e (frame_end c x h b).charge hs bs) k in
-    let l = leb-true b (at_hand c x h) t.0 in
+    let n = lower c x z h b d p a.0 (leb-true b (at_hand c x h) t.0) in
+    rw (le-leb d (at_hand c z h) n.0)
+    (less_drawn c e (frame_end c x h b).charge (frame_end c z h d).charge hs ds bs n.1 a.1 t.1)
+  where
+    lower : (c x z h b d : ℕ) → x ≤ z → d ≤ b → b ≤ at_hand c x h →
+        (d ≤ at_hand c z h) × ((frame_end c x h b).charge ≤ (frame_end c z h d).charge)
+    lower c x z h b d p q l = (omega arith, omega arith)
+
+-- the leasts are below whatever is within the bounds
+leasts_below : (hs : List ℕ) (ws : List Bounds) (bs : List ℕ) → length bs ≡ length hs → all_within ws bs ≡ true →
+    Below (leasts_from hs ws) bs
+leasts_below [] ws [] l a = tt
+leasts_below [] ws (b ∷ bs) l a = absurd (omega arith)
+leasts_below (h ∷ hs) ws [] l a = absurd (omega arith)
+leasts_below (h ∷ hs) ws (b ∷ bs) l a =
+    let w = first_bounds ws in
     let u = both (within_bounds w b) (all_within (later_bounds ws) bs) (sym (within_first ws b bs) ∙ a) in
     let v = both (leb w.least b) (eqb w.most no_upper_end || leb b w.most) u.0 in
-    let q = leb-true w.least b v.0 in
-    rw (le-leb w.least (at_hand c z h) (omega arith))
-    (leasts_from_lem c e (frame_end c x h b).charge (frame_end c z h w.least).charge hs (later_bounds ws) bs (omega arith)
-    u.1 t.1)
+    (leb-true w.least b v.0, leasts_below hs (later_bounds ws) bs (omega arith) u.1)
 
 -- a least is within its bounds if anything is
 least_within : (w : Bounds) (b : ℕ) → within_bounds w b ≡ true → within_bounds w w.least ≡ true
@@ -78,50 +94,47 @@ least_within w b k =
     go true p q = refl
     go false p q = le-leb w.least w.most (omega (arith, leb-true b w.most q))
 
-leasts_within : (c e x : ℕ) (hs : List ℕ) (ws : List Bounds) (bs : List ℕ) → all_within ws bs ≡ true →
-    feasible_from c e x hs bs ≡ true → all_within ws (leasts_from hs ws) ≡ true
-leasts_within c e x [] [] [] a k = refl
-leasts_within c e x [] (w ∷ ws) [] a k = refl
-leasts_within c e x [] ws (b ∷ bs) a k = absurd (false≢true k)
-leasts_within c e x (h ∷ hs) ws [] a k = absurd (false≢true k)
-leasts_within c e x (h ∷ hs) ws (b ∷ bs) a k =
+leasts_within : (hs : List ℕ) (ws : List Bounds) (bs : List ℕ) → length bs ≡ length hs → all_within ws bs ≡ true →
+    all_within ws (leasts_from hs ws) ≡ true
+leasts_within [] [] [] l a = refl
+leasts_within [] (w ∷ ws) [] l a = refl
+leasts_within [] ws (b ∷ bs) l a = absurd (omega arith)
+leasts_within (h ∷ hs) ws [] l a = absurd (omega arith)
+leasts_within (h ∷ hs) ws (b ∷ bs) l a =
     let w = first_bounds ws in
-    let y = (frame_end c x h b).charge in
-    let t = both (leb b (at_hand c x h)) (feasible_from c e y hs bs) k in
     let u = both (within_bounds w b) (all_within (later_bounds ws) bs) (sym (within_first ws b bs) ∙ a) in
     within_first ws w.least (leasts_from hs (later_bounds ws))
-    ∙ rw (least_within w b u.0, leasts_within c e y hs (later_bounds ws) bs u.1 t.1) refl
+    ∙ rw (least_within w b u.0, leasts_within hs (later_bounds ws) bs (omega arith) u.1) refl
 
 -- the leasts are feasible if anything is
 pub leasts_feasible : (r : Request) (bs : List ℕ) → feasible r bs ≡ true → feasible r (leasts r) ≡ true
 leasts_feasible r bs k =
-    let c = r.figures.capacity in
-    let e = r.figures.end in
     let s = r.figures.start in
     let a = feasible_within r bs k in
-    let d = feasible_drawable r bs k in
+    let l = feasible_length r bs k in
     rw (
-      leasts_within c e s r.harvest r.bounds bs a d,
-      leasts_from_lem c e s s r.harvest r.bounds bs (omega arith) a d,
+      leasts_within r.harvest r.bounds bs l a,
+      less_drawn r.figures.capacity r.figures.end s s r.harvest (withdrawn r (leasts r)) (withdrawn r bs) (omega arith)
+          (withdrawn_below r (leasts r) bs (leasts_below r.harvest r.bounds bs l a)) (feasible_drawable r bs k),
     ) refl
 
 -- ---- refusals 9 and 11
 
 -- both leave open what a test of the leasts leaves open, if that test gives the end charge
-reach_by : (r : Request) (t : Bool) → (t ≡ true → r.figures.end ≤ most_energy r) →
+reach_by : (r : Request) (t : Bool) → (t ≡ true → due r ≤ most_energy r) →
     is_none (first_of (out_of_reach r ∷ refuse_if (not t) 11 ∷ [])) ≡ t
-reach_by r true h = rw (le-ltb (most_energy r) r.figures.end (h refl)) refl
-reach_by r false h = go (ltb (most_energy r) r.figures.end)
+reach_by r true h = rw (le-ltb (most_energy r) (due r) (h refl)) refl
+reach_by r false h = go (ltb (most_energy r) (due r))
   where
     go : (u : Bool) →
-        is_none (first_of (pick u (refusal 9 (r.figures.end - most_energy r)) none ∷ refuse_if true 11 ∷ [])) ≡ false
+        is_none (first_of (pick u (refusal 9 (due r - most_energy r)) none ∷ refuse_if true 11 ∷ [])) ≡ false
     go true = refl
     go false = refl
 
 -- neither 9 nor 11 holds exactly when the leasts are feasible
 pub reachable_is : (r : Request) → reachable r ≡ feasible r (leasts r)
 reachable_is r =
-    reach_by r (feasible r (leasts r)) (λ k. at_least (total (leasts r)) r.figures.end (most_energy r)
+    reach_by r (feasible r (leasts r)) (λ k. at_least (total (leasts r)) (due r) (most_energy r)
     (feasible_spent r (leasts r) k))
   where
     at_least : (t e m : ℕ) → t + e ≤ m → e ≤ m
@@ -152,7 +165,7 @@ pub unlimited_storage : (r : Request) (c : ℕ) → most_energy r ≤ c → (bs 
     feasible (with_capacity r c) bs ≡ feasible_unlimited r bs
 unlimited_storage r c h bs =
     ap (λ (t : Bool). all_within r.bounds bs && t)
-    (unlimited_from c r.figures.end r.figures.start r.harvest bs h)
+    (unlimited_from c r.figures.end r.figures.start r.harvest (withdrawn r bs) h)
 
 -- so what can be reached without limit can be reached with such a capacity
 pub reachable_unlimited_is : (r : Request) (c : ℕ) → most_energy r ≤ c →
@@ -174,7 +187,7 @@ pub feasible_open : (r : Request) (c : ℕ) (bs : List ℕ) → feasible (with_c
 feasible_open r c bs k =
     rw (
       feasible_within (with_capacity r c) bs k,
-      feasible_unlimited_lem c r.figures.end r.figures.start r.figures.start r.harvest bs (omega arith)
+      feasible_unlimited_lem c r.figures.end r.figures.start r.figures.start r.harvest (withdrawn r bs) (omega arith)
           (feasible_drawable (with_capacity r c) bs k),
     ) refl
 

@@ -1,21 +1,22 @@
 -- Demand 3 for a request: plan_of is the one feasible list that is best for every table and takes more first.
-use mathlib.Core.Path.{◌≡◌, refl, sym, ◌∙◌}
+use mathlib.Core.Path.{◌≡◌, refl, sym, ap, ◌∙◌}
 use mathlib.Core.Logic.{◌⊎◌, inl, inr, ⊎_elim}
 use mathlib.Core.Bool.{Bool, true, false, ◌&&◌, ◌||◌, false≢true}
 use mathlib.Core.List.{List, [], ◌∷◌}
 use lib.IntN.{ℤ, pos}
 use lib.Signed.{◌≤ℤ◌}
-use lib.ListN.{get_or}
+use lib.ListN.{length, get_or}
 use Prim.Native.Nat.{ℕ, zero, suc, ◌≤◌, ◌<◌, min}
 use native.Mathlib.Omega.{arith}
 use lib.Dec.{ltb, eqb}
 use borrow.Author.Tests.{ltb-true, eqb-true}
-use Rattle.model.specs.Request.{Request, leasts, most_energy}
-use Rattle.model.specs.Charge.{feasible, charges}
+use Rattle.model.specs.declared.Store.{Store}
+use Rattle.model.specs.Request.{Request, leasts, frame_count, most_energy}
+use Rattle.model.specs.Charge.{feasible, feasible_from, charges}
 use Rattle.model.specs.Refusals.{reachable}
 use Rattle.model.specs.Reward.{Qualifies, earned, BestForAll, takes_more, IsPlan}
-use Rattle.model.specs.Frames.{Frame, Feasible, served}
-use Rattle.model.specs.Plan.{frames_with, plan_of}
+use Rattle.model.specs.Frames.{Frame, left, Feasible, served}
+use Rattle.model.specs.Plan.{store_of, frames_with, plan_of}
 use Rattle.model.specs.Demands.{PlanDemand}
 use Rattle.model.proofs.Integers as int
 use Rattle.model.proofs.Tests.{both}
@@ -23,11 +24,15 @@ use Rattle.model.proofs.Tables.{WithinAll, served_earns, level_qualifies, earned
 use Rattle.model.proofs.Trace.{feasible_length, feasible_drawable, feasible_within}
 use Rattle.model.proofs.Plan.{plan_best}
 use Rattle.model.proofs.Lowest.{MostServed, takes_more_lem, lowest, AtMost}
-use Rattle.model.proofs.Bridge.{frames_feasible, feasible_frames, frames_within, charges_at_most}
+use Rattle.model.proofs.Bridge.{taken_withdrawn, frames_feasible, feasible_frames, frames_within, charges_at_most}
+use Rattle.model.proofs.Lengths.{frames_length, plan_of_length}
 use Rattle.model.proofs.Lossless.{plan_lossless}
 use Rattle.model.proofs.Reach.{feasible_spent, total_within, reachable_is, feasible_reachable, none_feasible}
 
--- the frames of a request
+-- what the frames of a request share, and its frames
+abbrev store : Request → Store
+store r = store_of r r.figures.capacity
+
 abbrev pub request_frames : Request → List Frame
 request_frames r = frames_with r r.figures.capacity
 
@@ -82,6 +87,18 @@ at_most_at (x ∷ xs) [] k i = absurd k
 at_most_at (x ∷ xs) (y ∷ ys) k zero = k.0
 at_most_at (x ∷ xs) (y ∷ ys) k (suc i) = at_most_at xs ys k.1 i
 
+-- budgets that are feasible over frames are one for each
+frames_long : (r : Request) (bs : List ℕ) → Feasible r.figures.end r.figures.start (request_frames r) bs →
+    length bs ≡ frame_count r
+frames_long r bs k =
+    go r.figures.end r.figures.start (request_frames r) bs k ∙ frames_length (store r) r.harvest r.bounds
+  where
+    go : (e y : ℕ) (fs : List Frame) (bs : List ℕ) → Feasible e y fs bs → length bs ≡ length fs
+    go e y [] [] k = refl
+    go e y [] (b ∷ bs) k = absurd k
+    go e y (f ∷ fs) [] k = absurd k
+    go e y (f ∷ fs) (b ∷ bs) k = ap suc (go e (left f y b) fs bs k.1)
+
 module _ (r : Request) (start_fits : r.figures.start ≤ r.figures.capacity)
     (end_fits : r.figures.end ≤ r.figures.capacity) where
   shown : r.figures.start ≡ min r.figures.capacity r.figures.start
@@ -90,18 +107,18 @@ module _ (r : Request) (start_fits : r.figures.start ≤ r.figures.capacity)
   pub over_frames : (bs : List ℕ) → feasible r bs ≡ true →
       Feasible r.figures.end r.figures.start (request_frames r) bs
   over_frames bs k =
-      feasible_frames r.figures.capacity r.figures.end (most_energy r) end_fits r.figures.start
-      r.figures.start r.harvest r.bounds bs shown (omega arith) (feasible_within r bs k)
-      (feasible_drawable r bs k)
+      feasible_frames (store r) r.figures.end end_fits r.figures.start r.figures.start r.harvest r.bounds bs shown
+      (omega arith) (feasible_within r bs k)
+      (ap (feasible_from r.figures.capacity r.figures.end r.figures.start r.harvest)
+      (taken_withdrawn r r.figures.capacity bs (feasible_length r bs k)) ∙ feasible_drawable r bs k)
 
   pub from_frames : (bs : List ℕ) → Feasible r.figures.end r.figures.start (request_frames r) bs →
       feasible r bs ≡ true
   from_frames bs k =
       rw (
-        frames_within r.figures.capacity r.figures.end (most_energy r) r.figures.start r.harvest
-            r.bounds bs k,
-        frames_feasible r.figures.capacity r.figures.end (most_energy r) end_fits r.figures.start
-            r.figures.start r.harvest r.bounds bs shown k,
+        frames_within (store r) r.figures.end r.figures.start r.harvest r.bounds bs k,
+        sym (taken_withdrawn r r.figures.capacity bs (frames_long r bs k)),
+        frames_feasible (store r) r.figures.end end_fits r.figures.start r.figures.start r.harvest r.bounds bs shown k,
       ) refl
 
   pub within_reach : reachable r ≡ true → (bs : List ℕ) × (feasible r bs ≡ true)
@@ -152,10 +169,11 @@ module _ (r : Request) (start_fits : r.figures.start ≤ r.figures.capacity)
   unfolding plan_of
   lowest_charges bs k best =
       at_most_at (charges r (plan_of r)) (charges r bs)
-      (charges_at_most r.figures.capacity (most_energy r) r.figures.start r.figures.start
-      r.figures.start r.figures.start r.harvest r.bounds (plan_of r) bs shown shown
+      (rw (sym (taken_withdrawn r r.figures.capacity (plan_of r) (plan_of_length r)), sym (taken_withdrawn r r.figures.capacity bs (feasible_length r bs k)))
+      (charges_at_most (store r) r.figures.start r.figures.start r.figures.start r.figures.start r.harvest r.bounds
+      (plan_of r) bs shown shown
       (lowest r.figures.end r.figures.start r.figures.start (request_frames r) bs bs (omega arith)
-      (over_frames bs k) (over_frames bs k) (most_served bs best)))
+      (over_frames bs k) (over_frames bs k) (most_served bs best))))
 
 -- two plans of a request are the same list
 pub one_plan : (r : Request) (bs cs : List ℕ) → IsPlan r bs → IsPlan r cs → bs ≡ cs

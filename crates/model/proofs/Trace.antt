@@ -12,7 +12,7 @@ use lib.Signed.{le_z, non_neg}
 use lib.Dec.{leb}
 use borrow.Author.Tests.{leb-true, leb-false, le-leb}
 use Rattle.model.specs.Choice.{pick}
-use Rattle.model.specs.Request.{Request, frame_count}
+use Rattle.model.specs.Request.{Request, frame_count, withdrawn}
 use Rattle.model.specs.Charge.{FrameEnd, at_hand, frame_end, feasible_from, drawable, ends_from, charges, losses}
 use Rattle.model.specs.Charge.{all_within, feasible}
 use Rattle.model.specs.Trace.{min_z, excess, traced_end, traced_from, trace_from, trace, trace_losses, below_from}
@@ -20,6 +20,7 @@ use Rattle.model.specs.Trace.{last_from, below_zero, end_too_low, is_feasible, v
 use Rattle.model.specs.declared.frame.TracedEnd.{TracedEnd}
 use Rattle.model.proofs.Integers as int
 use Rattle.model.proofs.Tests.{both}
+use Rattle.model.proofs.Withdrawn.{withdrawn_length}
 
 -- the smaller of two natural numbers, by which it is
 min_by : (a b : ℕ) (t : Bool) → leb a b ≡ t → pick t (pos a) (pos b) ≡ pos (min a b)
@@ -101,7 +102,8 @@ verdict_feasible r bs l =
     let zs = trace r bs in
     let v = verdict_by (below_from 1 zs) (leb 1 (below_from 1 zs))
     (le_z (pos r.figures.end) (last_from (pos r.figures.start) zs)) in
-    let f = feasible_is r.figures.capacity r.figures.end r.figures.start 0 r.harvest bs l in
+    let f = feasible_is r.figures.capacity r.figures.end r.figures.start 0 r.harvest (withdrawn r bs)
+    (withdrawn_length r bs ∙ l) in
     (λ e. f ∙ v.0 e, λ e. v.1 (sym f ∙ e))
 
 -- what a frame ends with by the frame rule, as the tracer has it
@@ -122,11 +124,12 @@ traced_from_lem c e x (h ∷ hs) (b ∷ bs) f =
 
 -- what each frame of a request ends with
 abbrev pub ends : Request → List ℕ → List FrameEnd
-ends r bs = ends_from r.figures.capacity r.figures.start r.harvest bs
+ends r bs = ends_from r.figures.capacity r.figures.start r.harvest (withdrawn r bs)
 
 traced_ends : (r : Request) (bs : List ℕ) → drawable r bs ≡ true →
-    traced_from r.figures.capacity (pos r.figures.start) r.harvest bs ≡ map in_trace (ends r bs)
-traced_ends r bs f = traced_from_lem r.figures.capacity r.figures.end r.figures.start r.harvest bs f
+    traced_from r.figures.capacity (pos r.figures.start) r.harvest (withdrawn r bs) ≡ map in_trace (ends r bs)
+traced_ends r bs f =
+    traced_from_lem r.figures.capacity r.figures.end r.figures.start r.harvest (withdrawn r bs) f
 
 -- the traced charges of budgets that can be drawn are their charges
 pub trace_charges : (r : Request) (bs : List ℕ) → drawable r bs ≡ true → trace r bs ≡ map pos (charges r bs)
@@ -160,7 +163,9 @@ feasible_within r bs f = (both (all_within r.bounds bs) (drawable r bs) f).0
 -- feasible budgets are one for each frame
 pub feasible_length : (r : Request) (bs : List ℕ) → feasible r bs ≡ true → length bs ≡ frame_count r
 feasible_length r bs f =
-    length_from r.figures.capacity r.figures.end r.figures.start r.harvest bs (feasible_drawable r bs f)
+    sym (withdrawn_length r bs)
+    ∙ length_from r.figures.capacity r.figures.end r.figures.start r.harvest (withdrawn r bs)
+    (feasible_drawable r bs f)
 
 -- a charge not below zero in front moves the place by one
 earliest_after : (i y : ℕ) (zs : List ℤ) → EarliestBelow i zs → EarliestBelow (suc i) (pos y ∷ zs)

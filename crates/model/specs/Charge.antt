@@ -2,7 +2,7 @@
 -- Definition 1 of the source allows.
 use Rattle.std.specs.Prelude.{Bool, true, false, ◌&&◌, ◌||◌, List, [], ◌∷◌, map, ℕ, ◌+◌, ◌-◌, min, leb, eqb}
 use Rattle.model.specs.Limits.{no_upper_end}
-use Rattle.model.specs.Request.{Bounds, Request}
+use Rattle.model.specs.Request.{Bounds, Request, withdrawn}
 
 -- what a frame has at hand: the charge x before it and its harvest h, all of which it can use, whatever the capacity c
 abbrev pub at_hand : ℕ → ℕ → ℕ → ℕ
@@ -13,12 +13,13 @@ pub record FrameEnd : Type 0 where
   pub charge : ℕ
   pub lost : ℕ
 
--- the frame rule: capacity c, charge x before, harvest h, budget b with b ≤ at_hand c x h. The tracer's is its
+-- the frame rule: capacity c, charge x before, harvest h, withdrawn b with b ≤ at_hand c x h. The tracer's is its
 -- extension below zero
 abbrev pub frame_end : ℕ → ℕ → ℕ → ℕ → FrameEnd
 frame_end c x h b = record { charge = min c (at_hand c x h - b); lost = at_hand c x h - b - c }
 
--- Definition 1, from charge x: no budget above what is at hand, and the end charge e reached after the last frame
+-- Definition 1, from charge x: nothing withdrawn above what is at hand, and the end charge e reached after the last
+-- frame
 abbrev pub feasible_from : ℕ → ℕ → ℕ → List ℕ → List ℕ → Bool
 feasible_from c e x [] [] = leb e x
 feasible_from c e x [] (b ∷ bs) = false
@@ -27,7 +28,8 @@ feasible_from c e x (h ∷ hs) (b ∷ bs) = leb b (at_hand c x h) && feasible_fr
 
 -- what can be drawn, whatever the bounds
 abbrev pub drawable : Request → List ℕ → Bool
-drawable r bs = feasible_from r.figures.capacity r.figures.end r.figures.start r.harvest bs
+drawable r bs =
+    feasible_from r.figures.capacity r.figures.end r.figures.start r.harvest (withdrawn r bs)
 
 -- a budget within the bounds of its frame
 abbrev pub within_bounds : Bounds → ℕ → Bool
@@ -53,14 +55,14 @@ abbrev pub charges_from : ℕ → ℕ → List ℕ → List ℕ → List ℕ
 charges_from c x hs bs = map (λ (e : FrameEnd). e.charge) (ends_from c x hs bs)
 
 abbrev pub charges : Request → List ℕ → List ℕ
-charges r bs = charges_from r.figures.capacity r.figures.start r.harvest bs
+charges r bs = charges_from r.figures.capacity r.figures.start r.harvest (withdrawn r bs)
 
 -- what each frame loses
 abbrev pub losses_from : ℕ → ℕ → List ℕ → List ℕ → List ℕ
 losses_from c x hs bs = map (λ (e : FrameEnd). e.lost) (ends_from c x hs bs)
 
 abbrev pub losses : Request → List ℕ → List ℕ
-losses r bs = losses_from r.figures.capacity r.figures.start r.harvest bs
+losses r bs = losses_from r.figures.capacity r.figures.start r.harvest (withdrawn r bs)
 
 -- unlimited storage: the same rule with nothing lost
 abbrev pub feasible_unlimited_from : ℕ → ℕ → List ℕ → List ℕ → Bool
@@ -71,4 +73,5 @@ feasible_unlimited_from e x (h ∷ hs) (b ∷ bs) = leb b (x + h) && feasible_un
 
 abbrev pub feasible_unlimited : Request → List ℕ → Bool
 feasible_unlimited r bs =
-    all_within r.bounds bs && feasible_unlimited_from r.figures.end r.figures.start r.harvest bs
+    all_within r.bounds bs
+    && feasible_unlimited_from r.figures.end r.figures.start r.harvest (withdrawn r bs)

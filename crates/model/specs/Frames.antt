@@ -66,9 +66,3 @@ unfoldable pub requirement : ℕ → List Frame → List ℕ → ℕ
 requirement e [] bs = e
 requirement e (f ∷ fs) [] = e
 requirement e (f ∷ fs) (b ∷ bs) = f.drain + b + requirement e fs bs - f.inflow
-
--- the greatest requirement of what follows a frame
-unfoldable pub peak : ℕ → List Frame → List ℕ → ℕ
-peak e [] bs = 0
-peak e (f ∷ fs) [] = 0
-peak e (f ∷ fs) (b ∷ bs) = max (requirement e fs bs) (peak e fs bs)

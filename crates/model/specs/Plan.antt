@@ -1,26 +1,46 @@
 -- The plan and the needed capacity of a request as computing definitions. That they are what demands 2 and 3 ask is
 -- proved (proofs/).
-use Rattle.std.specs.Prelude.{List, [], ◌∷◌, ℕ, ◌+◌, max, eqb}
+use Rattle.std.specs.Prelude.{List, [], ◌∷◌, ℕ, ◌+◌, ◌-◌, max, eqb}
+use Rattle.model.specs.declared.Store.{Store}
 use Rattle.model.specs.Choice.{pick}
 use Rattle.model.specs.Limits.{no_upper_end}
-use Rattle.model.specs.Request.{Bounds, Request, first_bounds, later_bounds, total, most_energy}
-use Rattle.model.specs.Frames.{Frame, plan, peak}
+use Rattle.model.specs.Request.{Bounds, Request, first_bounds, later_bounds, most_energy}
+use Rattle.model.specs.Frames.{Frame, plan, requirement}
 
--- the most of a frame; m, which no budget reaches, where there is no upper end
+-- the most of a frame; m, which no budget is above, where there is no upper end
 abbrev pub most_of : ℕ → Bounds → ℕ
 most_of m w = pick (eqb w.most no_upper_end) m w.most
 
--- the charge rule as frames: capacity c, harvest h, bounds w
-abbrev pub frame_of : ℕ → ℕ → ℕ → Bounds → Frame
-frame_of c m h w = record { inflow = h; ceiling = c + h; drain = 0; least = w.least; most = most_of m w }
+-- the charge rule as frames: the most that a frame with harvest h can spend and carry on with a store of capacity c
+abbrev pub ceiling_of : ℕ → ℕ → ℕ
+ceiling_of c h = c + h
 
-unfoldable pub frames_of : ℕ → ℕ → List ℕ → List Bounds → List Frame
-frames_of c m [] ws = []
-frames_of c m (h ∷ hs) ws = frame_of c m h (first_bounds ws) ∷ frames_of c m hs (later_bounds ws)
+-- and the least capacity with which it can spend and carry on n
+abbrev pub capacity_for : ℕ → ℕ → ℕ
+capacity_for n h = n - h
+
+-- a frame with harvest h and bounds w
+abbrev pub frame_of : Store → ℕ → Bounds → Frame
+frame_of s h w =
+    record {
+      inflow = h;
+      ceiling = ceiling_of s.capacity h;
+      drain = 0;
+      least = w.least;
+      most = most_of s.energy w;
+    }
+
+unfoldable pub frames_of : Store → List ℕ → List Bounds → List Frame
+frames_of s [] ws = []
+frames_of s (h ∷ hs) ws = frame_of s h (first_bounds ws) ∷ frames_of s hs (later_bounds ws)
+
+-- what the frames of a request share, were its capacity c
+abbrev pub store_of : Request → ℕ → Store
+store_of r c = record { capacity = c; energy = most_energy r }
 
 -- the frames of a request with a store of capacity c
 abbrev pub frames_with : Request → ℕ → List Frame
-frames_with r c = frames_of c (most_energy r) r.harvest r.bounds
+frames_with r c = frames_of (store_of r c) r.harvest r.bounds
 
 -- the plan
 unfoldable pub plan_of : Request → List ℕ
@@ -28,13 +48,19 @@ plan_of r = plan r.figures.end r.figures.start (frames_with r r.figures.capacity
 
 -- a capacity that no charge meets
 abbrev pub boundless : Request → ℕ
-boundless r = r.figures.start + (r.figures.end + total r.harvest)
+boundless r = most_energy r + r.figures.end
 
 -- the plan without limit
 unfoldable pub open_plan : Request → List ℕ
 open_plan r = plan r.figures.end r.figures.start (frames_with r (boundless r))
 
--- the needed capacity: the greatest of the start, the end and what the plan without limit requires after each frame
+-- the least capacity with which each frame can spend its drain and its budget and carry on what is required after it
+unfoldable pub peak : ℕ → List Frame → List ℕ → ℕ
+peak e [] bs = 0
+peak e (f ∷ fs) [] = 0
+peak e (f ∷ fs) (b ∷ bs) = max (capacity_for (f.drain + b + requirement e fs bs) f.inflow) (peak e fs bs)
+
+-- the needed capacity: the greatest of the start, the end and what the frames of the plan without limit ask for
 unfoldable pub needed_of : Request → ℕ
 needed_of r = max r.figures.start
     (max r.figures.end (peak r.figures.end (frames_with r (boundless r)) (open_plan r)))

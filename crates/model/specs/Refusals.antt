@@ -1,10 +1,10 @@
 -- Refusals 1 to 7 and 9 to 11, each with its P. An entry has a list of them, in its order; the first that holds is
 -- given.
-use Rattle.std.specs.Prelude.{◌≡◌, Bool, true, false, not, ◌&&◌, ◌||◌, List, [], ◌∷◌, ◌++◌, ℕ, suc, ◌-◌, eqb, ltb}
+use Rattle.std.specs.Prelude.{◌≡◌, Bool, true, false, not, ◌&&◌, ◌||◌, List, [], ◌∷◌, ◌++◌, map, ℕ, suc, ◌-◌, eqb, ltb}
 use Rattle.model.specs.Choice.{pick}
 use Rattle.model.specs.Limits.{max_frames, max_harvest, max_capacity, max_bound, no_upper_end}
 use Rattle.model.specs.declared.Figures.{Figures}
-use Rattle.model.specs.Request.{Bounds, Request, frame_count, most_energy, leasts}
+use Rattle.model.specs.Request.{Bounds, Request, frame_count, most_energy, due, leasts}
 use Rattle.model.specs.Charge.{feasible, feasible_unlimited}
 
 -- a refusal: document 01's number and its P
@@ -78,9 +78,9 @@ abbrev pub bounds_refused : ℕ → List Bounds → Refusal
 bounds_refused k [] = none
 bounds_refused k (w ∷ ws) = elim (bad_bounds w) [ true ↦ refusal 10 k | false ↦ bounds_refused (suc k) ws ]
 
--- 9: start plus all harvest is below the end charge; P is the amount missing
+-- 9: start plus all harvest is below what has to be there; P is the amount missing
 abbrev pub out_of_reach : Request → Refusal
-out_of_reach r = pick (ltb (most_energy r) r.figures.end) (refusal 9 (r.figures.end - most_energy r)) none
+out_of_reach r = pick (ltb (most_energy r) (due r)) (refusal 9 (due r - most_energy r)) none
 
 -- 11: the leasts taken as budgets are not feasible, with the capacity or with unlimited storage
 abbrev pub leasts_refused : Request → Refusal
@@ -125,12 +125,17 @@ bound_refusals r = bounds_refused 1 r.bounds ∷ out_of_reach r ∷ leasts_refus
 abbrev pub served_refusals : Request → List Refusal
 served_refusals r = figure_refusals r ++ bound_refusals r
 
--- of planning, with lists of l leasts, m mosts and n budgets
-abbrev pub plan_refusals : Request → ℕ → ℕ → ℕ → List Refusal
-plan_refusals r l m n = lent_refusals (frame_count r) l m ++ (wrong_length (frame_count r) n ∷ served_refusals r)
+-- of planning, with lists of l leasts and m mosts, and lists of lengths ns that are written
+abbrev pub plan_refusals : Request → ℕ → ℕ → List ℕ → List Refusal
+plan_refusals r l m ns =
+    let k = frame_count r in lent_refusals k l m ++ (map (wrong_length k) ns ++ served_refusals r)
 
-abbrev pub plan_refusal : Request → ℕ → ℕ → ℕ → Refusal
-plan_refusal r l m n = first_of (plan_refusals r l m n)
+abbrev pub plan_refusal : Request → ℕ → ℕ → List ℕ → Refusal
+plan_refusal r l m ns = first_of (plan_refusals r l m ns)
+
+-- of planning a request with lists of its own length, an entry for each frame
+abbrev pub own_plan_refusal : Request → Refusal
+own_plan_refusal r = let k = frame_count r in plan_refusal r k k (k ∷ [])
 
 -- of the needed capacity, in which the capacity plays no part: 3 is for start and end, 11 without limit
 abbrev pub open_limits : Request → List Refusal

@@ -73,11 +73,14 @@ total (x ∷ xs) = x + total xs
 abbrev pub most_energy : Request → ℕ
 most_energy r = r.figures.start + total r.harvest
 
+-- what start and harvests have to come to, whatever the budgets: the end charge
+abbrev pub due : Request → ℕ
+due r = r.figures.end
+
+-- what budgets take out of the store, frame by frame: themselves
+abbrev pub withdrawn : Request → List ℕ → List ℕ
+withdrawn r bs = bs
+
 -- the same request with another capacity
 abbrev pub with_capacity : Request → ℕ → Request
-with_capacity r c =
-    record {
-      figures = figures c r.figures.start r.figures.end;
-      harvest = r.harvest;
-      bounds = r.bounds;
-    }
+with_capacity r c = record r { figures = record r.figures { capacity = c } }

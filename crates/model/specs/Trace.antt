@@ -2,7 +2,7 @@
 use Rattle.std.specs.Prelude.{◌≡◌, true, false, List, [], ◌∷◌, map, ℤ, pos, negsuc, ◌+ℤ◌, ◌-ℤ◌, ◌≤ℤ◌, ℕ, suc, ◌+◌, ◌-◌, ◌<◌, leb, length, get_or, take}
 use Rattle.std.specs.Int.Signed.{le_z, non_neg}
 use Rattle.model.specs.Choice.{pick}
-use Rattle.model.specs.Request.{Request, total}
+use Rattle.model.specs.Request.{Request, total, withdrawn}
 use Rattle.model.specs.declared.frame.TracedEnd.{TracedEnd}
 
 -- the smaller of two whole numbers
@@ -25,6 +25,11 @@ traced_end c x h b =
     let left = at_hand_z c x h -ℤ pos b in
     record { charge = min_z (pos c) left; lost = excess left c }
 
+-- what the store holds once it has taken in what it can of the harvest, in a frame that withdraws b and ends with charge
+-- z: that charge, since what is withdrawn is drawn before
+abbrev pub fullest : ℤ → ℕ → ℤ
+fullest z b = z
+
 -- what each frame of any budgets ends with
 abbrev pub traced_from : ℕ → ℤ → List ℕ → List ℕ → List TracedEnd
 traced_from c x [] bs = []
@@ -36,14 +41,14 @@ abbrev pub trace_from : ℕ → ℤ → List ℕ → List ℕ → List ℤ
 trace_from c x hs bs = map (λ (e : TracedEnd). e.charge) (traced_from c x hs bs)
 
 abbrev pub trace : Request → List ℕ → List ℤ
-trace r bs = trace_from r.figures.capacity (pos r.figures.start) r.harvest bs
+trace r bs = trace_from r.figures.capacity (pos r.figures.start) r.harvest (withdrawn r bs)
 
 -- what each frame loses
 abbrev pub trace_losses_from : ℕ → ℤ → List ℕ → List ℕ → List ℕ
 trace_losses_from c x hs bs = map (λ (e : TracedEnd). e.lost) (traced_from c x hs bs)
 
 abbrev pub trace_losses : Request → List ℕ → List ℕ
-trace_losses r bs = trace_losses_from r.figures.capacity (pos r.figures.start) r.harvest bs
+trace_losses r bs = trace_losses_from r.figures.capacity (pos r.figures.start) r.harvest (withdrawn r bs)
 
 -- the earliest frame below zero among all but the last, the first being frame k; 0 for none
 abbrev pub below_from : ℕ → List ℤ → ℕ
@@ -56,23 +61,24 @@ abbrev pub last_from : ℤ → List ℤ → ℤ
 last_from x [] = x
 last_from x (z ∷ zs) = last_from z zs
 
--- what charges zs and losses ls mean, of a store of capacity c from charge x on, with harvests hs and budgets bs. For
--- any budgets, one for each frame, the trace has this meaning and nothing else has (proofs/Losses.antt)
+-- what charges zs and losses ls mean, of a store of capacity c from charge x on, with harvests hs and withdrawals bs.
+-- For any withdrawals, one for each frame, the trace has this meaning and nothing else has (proofs/Losses.antt)
 pub record AccountedFrom (c : ℕ) (x : ℤ) (hs bs : List ℕ) (zs : List ℤ) (ls : List ℕ) : Type 0 where
   -- a charge and a loss for each frame
   pub charges_long : length zs ≡ length hs
   pub losses_long : length ls ≡ length hs
   -- no unit is left out: after any number n of frames the charge at first plus the harvests so far is the charge plus
-  -- the budgets so far plus the losses so far
+  -- the withdrawals so far plus the losses so far
   pub balanced : (n : ℕ) →
       x +ℤ pos (total (take n hs)) ≡ last_from x (take n zs) +ℤ pos (total (take n bs) + total (take n ls))
-  -- no charge is above the capacity
-  pub within : (i : ℕ) → get_or zs i (pos 0) ≤ℤ pos c
+  -- the store never holds more than its capacity
+  pub within : (i : ℕ) → fullest (get_or zs i (pos 0)) (get_or bs i 0) ≤ℤ pos c
   -- only a full store loses, so that below zero nothing is lost
-  pub full : (i : ℕ) → 0 < get_or ls i 0 → get_or zs i (pos 0) ≡ pos c
+  pub full : (i : ℕ) → 0 < get_or ls i 0 → fullest (get_or zs i (pos 0)) (get_or bs i 0) ≡ pos c
 
 abbrev pub Accounted : Request → List ℕ → List ℤ → List ℕ → Type 0
-Accounted r bs zs ls = AccountedFrom r.figures.capacity (pos r.figures.start) r.harvest bs zs ls
+Accounted r bs zs ls =
+    AccountedFrom r.figures.capacity (pos r.figures.start) r.harvest (withdrawn r bs) zs ls
 
 -- document 01's verdict on a supplied list
 pub data Verdict : Type 0 where

@@ -20,13 +20,13 @@ pub fn at_hand(capacity: u32, charge: u32, harvest: u32) -> u64
     charge as u64 + harvest as u64
 }
 
-// A budget taken off charge and harvest; what exceeds the capacity is lost.
-pub fn frame_end(capacity: u32, charge: i64, harvest: u32, budget: u32) -> TracedEnd
-    requires { mag charge < 2 ^ 62 }
-    ensures { result ≡ traced_end capacity charge harvest budget }
+// What is drawn taken off charge and harvest; what exceeds the capacity is lost.
+pub fn frame_end(capacity: u32, charge: i64, harvest: u32, drawn: u64) -> TracedEnd
+    requires { (mag charge < 2 ^ 62) × (drawn < 2 ^ 33) }
+    ensures { result ≡ traced_end capacity charge harvest drawn }
 {
     let most = capacity as i64;
-    let left = charge + (harvest as i64) - (budget as i64);
+    let left = charge + (harvest as i64) - (drawn as i64);
     if most <= left {
         TracedEnd {
             charge: most,
@@ -40,11 +40,11 @@ pub fn frame_end(capacity: u32, charge: i64, harvest: u32, budget: u32) -> Trace
     }
 }
 
-// The charge after a frame whose budget is at hand.
-pub fn charge_after(capacity: u32, charge: u32, harvest: u32, budget: u32) -> u32
-    requires { budget ≤ at_hand capacity charge harvest }
-    ensures { result ≡ (frame_end capacity charge harvest budget).charge }
+// The charge after a frame in which what is drawn is at hand.
+pub fn charge_after(capacity: u32, charge: u32, harvest: u32, drawn: u64) -> u32
+    requires { drawn ≤ at_hand capacity charge harvest }
+    ensures { result ≡ (frame_end capacity charge harvest drawn).charge }
 {
-    let end = frame_end(capacity, charge as i64, harvest, budget);
+    let end = frame_end(capacity, charge as i64, harvest, drawn);
     end.charge as u32
 }

@@ -17,6 +17,14 @@ pub struct Figures {
     pub end: u32,
 }
 
+// What all frames of a request share: the store's capacity, and an energy that no budget is above, the most of a frame
+// that has no upper end.
+#[derive(Clone, Copy)]
+pub struct Store {
+    pub capacity: u64,
+    pub energy: u64,
+}
+
 // A harvest, a least and a most for each frame, in three lists since C lends each by itself; no length is known.
 #[derive(Clone, Copy)]
 pub struct Lists<'a> {

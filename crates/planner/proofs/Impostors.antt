@@ -9,8 +9,8 @@ use Rattle.model.specs.Answer.{told}
 use Rattle.model.specs.Limits.{no_upper_end}
 use Rattle.model.specs.Request.{Request, figures, bounded_request}
 use Rattle.model.specs.Refusals.{plan_refusal, needed_refusal}
-use Rattle.model.specs.Frames.{reserve, largest, budget, plan, requirement, peak}
-use Rattle.model.specs.Plan.{frames_of, plan_of, open_plan, needed_of}
+use Rattle.model.specs.Frames.{reserve, largest, budget, plan, requirement}
+use Rattle.model.specs.Plan.{frames_of, plan_of, open_plan, peak, needed_of}
 use Rattle.model.proofs.Outcome.{gave, no_refusal}
 use Rattle.planner.specs.Says.{PlanSays, NeededSays}
 
@@ -52,7 +52,7 @@ unwritten_refused r p = heads 7 1 (7 ∷ []) (2 ∷ []) (λ q. omega arith) (wri
 -- a refusal where there is a plan, whatever its number and P
 pub refusal_refused : (bs : List ℕ) (x y : ℕ) (e : Given) →
     PlanSays rising 2 2 (x ∷ y ∷ []) bs (Err e) → ⊥
-refusal_refused bs x y e p = no_refusal (plan_refusal rising 2 2 2) tt refl (told e) p.answer
+refusal_refused bs x y e p = no_refusal (plan_refusal rising 2 2 (2 ∷ [])) tt refl (told e) p.answer
 
 -- start plus all harvest as the needed capacity of harvest 1, 2, which is 0
 pub all_energy_refused : NeededSays rising 2 2 (Ok 3) → ⊥

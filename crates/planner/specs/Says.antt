@@ -1,5 +1,5 @@
 -- What planning and the needed capacity promise of every argument: the equations, then their meaning.
-use Rattle.std.specs.Prelude.{◌≡◌, true, false, List, ℕ, length, Result}
+use Rattle.std.specs.Prelude.{◌≡◌, true, false, List, [], ◌∷◌, ℕ, length, Result}
 use Rattle.model.specs.declared.refusal.Refusal.{Refusal as Given}
 use Rattle.model.specs.Answer.{said}
 use Rattle.model.specs.Choice.{pick}
@@ -12,13 +12,13 @@ use Rattle.model.specs.Plan.{plan_of, needed_of}
 -- planning request q with lists of l leasts and m mosts: budgets bs before and bs' after
 pub record PlanSays (q : Request) (l m : ℕ) (bs bs' : List ℕ) (r : Result (Unit {0}) Given) : Type 0 where
   -- planned, or the first of its refusals that holds
-  pub answer : said r ≡ outcome (plan_refusal q l m (length bs)) tt
+  pub answer : said r ≡ outcome (plan_refusal q l m (length bs ∷ [])) tt
   -- the budgets are the plan, or as they were
-  pub budgets : bs' ≡ pick (is_none (plan_refusal q l m (length bs))) (plan_of q) bs
+  pub budgets : bs' ≡ pick (is_none (plan_refusal q l m (length bs ∷ []))) (plan_of q) bs
   -- if not refused they are the one feasible list that is best for every qualifying table and takes more first
-  pub plan : is_none (plan_refusal q l m (length bs)) ≡ true → IsPlan q bs'
+  pub plan : is_none (plan_refusal q l m (length bs ∷ [])) ≡ true → IsPlan q bs'
   -- refusals 9 and 11 mean that nothing is feasible
-  pub no_plan : is_unreachable (plan_refusal q l m (length bs)) ≡ true → (cs : List ℕ) → feasible q cs ≡ false
+  pub no_plan : is_unreachable (plan_refusal q l m (length bs ∷ [])) ≡ true → (cs : List ℕ) → feasible q cs ≡ false
 
 -- the needed capacity of request q, whose own capacity plays no part, with lists of l leasts and m mosts
 pub record NeededSays (q : Request) (l m : ℕ) (r : Result ℕ Given) : Type 0 where

@@ -5,27 +5,20 @@ ghost use Rattle.model.specs.Refusals.{is_none, needed_refusal};
 ghost use Rattle.model.specs.Plan.{needed_of};
 ghost use Rattle.planner.specs.Says.{NeededSays};
 
-use leveller::{Rule, Task};
+use leveller::Task;
 use model::{Refusal, Request};
-use request::{check_needed, sum};
+use request::check_needed;
 
-// The greatest of the start, the end and what the plan without limit requires; the capacity of the figures plays no
-// part.
+// The greatest of the start, the end and what the frames of the plan without limit ask for; the capacity of the figures
+// plays no part.
 pub fn needed_capacity(request: Request) -> u64
     requires { is_none (needed_refusal (asked request) (leasts_lent request) (mosts_lent request)) ≡ true }
     ensures { result ≡ needed_of (asked request.entry) }
 {
-    let Request { figures, lists } = request;
-    let all = sum(lists.harvest);
+    let figures = request.figures;
     let start = figures.start as u64;
     let end = figures.end as u64;
-    let energy = start + all;
-    let rule = Rule {
-        capacity: start + (end + all),
-        end,
-        energy,
-    };
-    let peak = Task::of(rule, lists, start).peak();
+    let peak = Task::open(request).peak();
     start.max(end.max(peak))
 }
 

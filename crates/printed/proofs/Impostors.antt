@@ -8,8 +8,8 @@ use Rattle.model.specs.Refusals.{Refusal}
 use Rattle.model.specs.Limits.{no_upper_end}
 use Rattle.model.specs.Request.{Request, bounded_request, figures}
 use Rattle.model.specs.Charge.{losses}
-use Rattle.model.specs.Frames.{reserve, largest, budget, plan, requirement, peak}
-use Rattle.model.specs.Plan.{frames_of, plan_of, open_plan, needed_of}
+use Rattle.model.specs.Frames.{reserve, largest, budget, plan, requirement}
+use Rattle.model.specs.Plan.{frames_of, plan_of, open_plan, peak, needed_of}
 use Rattle.model.proofs.Requests.{plan_demand}
 use Rattle.model.proofs.Needed.{needed_demand}
 use Rattle.wordfile.specs.File.{file_bytes}

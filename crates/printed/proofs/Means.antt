@@ -13,7 +13,7 @@ use Rattle.model.specs.Refusals.{Refusal}
 use Rattle.model.specs.Choice.{pick}
 use Rattle.model.specs.Limits.{max_frames}
 use Rattle.model.specs.Request.{Request, leasts, frame_count}
-use Rattle.model.specs.Refusals.{is_none, is_unreachable, reachable, reachable_unlimited, plan_refusal}
+use Rattle.model.specs.Refusals.{is_none, is_unreachable, reachable, reachable_unlimited, own_plan_refusal}
 use Rattle.model.specs.Charge.{FrameEnd, frame_end, ends_from, charges, losses}
 use Rattle.model.specs.Plan.{plan_of}
 use Rattle.model.proofs.Needed.{needed_is}
@@ -147,7 +147,7 @@ request_means q = go (is_none f) refl
     k = frame_count q
 
     f : Refusal
-    f = plan_refusal q k k k
+    f = own_plan_refusal q
 
     g : Shown
     g = shown_of q (plan_of q)
@@ -155,7 +155,7 @@ request_means q = go (is_none f) refl
     -- not refused: it shows the plan's figures, so whatever figures it shows are those
     go : (t : Bool) → is_none f ≡ t → ListMeans q (pick t (showing g) (refused_line f))
     go true ok =
-        let w = (plan_within q k k k ok).served in
+        let w = (plan_within q k k (k ∷ []) ok).served in
         let p = plan_is q w.figures.start_fits w.figures.end_fits w.reach in
         let l = ends_paired q (plan_of q) (feasible_length q (plan_of q) p.is_feasible) in
         let r : Right q g =
@@ -179,7 +179,7 @@ request_means q = go (is_none f) refl
         record {
           form = inr (f, refl);
           right = λ g s. absurd (refusal_no_figures f g s.1);
-          no_plan = λ h u e. none_feasible q (plan_unreachable q k k k (same_reach f h e ∙ u));
+          no_plan = λ h u e. none_feasible q (plan_unreachable q k k (k ∷ []) (same_reach f h e ∙ u));
         }
 
 -- ---- the listing of a file

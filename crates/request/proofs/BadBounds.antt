@@ -2,7 +2,7 @@
 use mathlib.Core.Path.{◌≡◌, refl, sym, ap, ◌∙◌}
 use mathlib.Core.Bool.{Bool, true, false, false≢true, not, ◌&&◌, ◌||◌}
 use mathlib.Core.List.{List, [], ◌∷◌}
-use Prim.Native.Nat.{ℕ, zero, suc, ◌≤◌, ◌<◌}
+use Prim.Native.Nat.{ℕ, zero, suc, ◌≤◌}
 use native.Mathlib.Omega.{arith}
 use lib.Dec.{ltb, eqb}
 use lib.ListN.{length, get_or}
@@ -52,15 +52,6 @@ pub bounds_length : (ls ms : List ℕ) → length ls ≡ length ms → length (b
 bounds_length [] ms e = refl
 bounds_length (l ∷ ls) [] e = absurd (omega arith)
 bounds_length (l ∷ ls) (m ∷ ms) e = ap suc (bounds_length ls ms (omega arith))
-
--- those of frame i
-pub bounds_nth :
-    (i : ℕ) (ls ms : List ℕ) → i < length ls → length ls ≡ length ms →
-    get_or (bounds_of ls ms) i absent ≡ bounds (get_or ls i 0) (get_or ms i 0)
-bounds_nth i [] ms l e = absurd (omega arith)
-bounds_nth i (x ∷ ls) [] l e = absurd (omega arith)
-bounds_nth zero (x ∷ ls) (y ∷ ms) l e = refl
-bounds_nth (suc i) (x ∷ ls) (y ∷ ms) l e = bounds_nth i ls ms (omega arith) (omega arith)
 
 -- the first frame decides by its test
 by_test : (k : ℕ) (w : Bounds) (ws : List Bounds) (t : Bool) → t ≡ bad_bounds w

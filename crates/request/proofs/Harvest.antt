@@ -13,7 +13,7 @@ use Rattle.std.specs.List.{position_from, fold, sum}
 use Rattle.model.specs.Refusals.{Refusal}
 use Rattle.model.specs.Limits.{max_frames, max_harvest}
 use Rattle.model.specs.Choice.{pick}
-use Rattle.model.specs.Request.{Request, total, most_energy}
+use Rattle.model.specs.Request.{Request, total, most_energy, due}
 use Rattle.model.specs.Refusals.{refusal, none, is_none, harvest_over_limit, out_of_reach}
 use Rattle.request.proofs.Place.{at_place, by_place}
 use Rattle.request.proofs.Look.{look, by_look}
@@ -74,16 +74,16 @@ total_is_sum xs = let i = added_up 0 xs in i ∙ omega arith
 pub total_below : (m : ℕ) (xs : List ℕ) → ((i : ℕ) → get_or xs i 0 < m) → total xs ≤ m * length xs
 total_below m xs h = total_small m xs (λ i. let l = h i in omega arith)
 
--- where refusal 9 does not hold, the end charge is not above all there is
-pub reach_within : (r : Request) → is_none (out_of_reach r) ≡ true → r.figures.end ≤ most_energy r
-reach_within r e = go (ltb (most_energy r) r.figures.end) refl e
+-- where refusal 9 does not hold, what is due is not above all there is
+pub reach_within : (r : Request) → is_none (out_of_reach r) ≡ true → due r ≤ most_energy r
+reach_within r e = go (ltb (most_energy r) (due r)) refl e
   where
     m : ℕ
     m = most_energy r
 
     p : ℕ
-    p = r.figures.end - m
+    p = due r - m
 
-    go : (t : Bool) → ltb m r.figures.end ≡ t → is_none (pick t (refusal 9 p) none) ≡ true → r.figures.end ≤ m
+    go : (t : Bool) → ltb m (due r) ≡ t → is_none (pick t (refusal 9 p) none) ≡ true → due r ≤ m
     go true q f = absurd (false≢true f)
-    go false q f = ltb-false m r.figures.end q
+    go false q f = ltb-false m (due r) q

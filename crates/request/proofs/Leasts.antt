@@ -11,9 +11,9 @@ use borrow.Author.Tests.{le-leb}
 use Rattle.model.specs.Refusals.{Refusal}
 use Rattle.model.specs.declared.Figures.{Figures}
 use Rattle.model.specs.Limits.{no_upper_end}
-use Rattle.model.specs.Request.{Bounds, Request, request, bounds, bounds_of, bounded_request, leasts_from, leasts, with_capacity}
+use Rattle.model.specs.Request.{Bounds, Request, bounds, bounds_of, bounded_request, leasts_from, leasts, frame_count, with_capacity}
 use Rattle.model.specs.Request.{most_energy}
-use Rattle.model.specs.Charge.{feasible_from, within_bounds, all_within, feasible}
+use Rattle.model.specs.Charge.{within_bounds, all_within, drawable, feasible}
 use Rattle.model.specs.Refusals.{refusal, none, is_none, refuse_if, first_of, bad_bounds, bounds_refused, out_of_reach}
 use Rattle.model.specs.Refusals.{leasts_refused, leasts_refused_unlimited}
 use Rattle.model.proofs.Reach.{unlimited_storage, zeros_feasible}
@@ -60,25 +60,27 @@ leasts_in_lem k (l ∷ ls) (m ∷ ms) e = go (bad_bounds (bounds l m)) refl e (l
 pub leasts_drawn : (f : Figures) (hs ls ms : List ℕ) → length ls ≡ length hs → length ms ≡ length hs →
     all_within (bounds_of ls ms) ls ≡ true →
     let r = bounded_request f hs ls ms in
-    feasible r (leasts r) ≡ feasible_from f.capacity f.end f.start hs ls
+    feasible r (leasts r) ≡ drawable r ls
 leasts_drawn f hs ls ms p q a = rw (leasts_are hs ls ms p q, a) refl
 
 pub unreachable_is : (f : Figures) (hs ls ms : List ℕ) → length ls ≡ length hs → length ms ≡ length hs →
     all_within (bounds_of ls ms) ls ≡ true →
     let r = bounded_request f hs ls ms in
-    first_of (unreachable_by f hs ls) ≡ first_of (out_of_reach r ∷ leasts_refused r ∷ [])
+    first_of (unreachable_by r ls) ≡ first_of (out_of_reach r ∷ leasts_refused r ∷ [])
 unreachable_is f hs ls ms p q a =
     let r = bounded_request f hs ls ms in
     ap (λ (t : Bool). first_of (out_of_reach r ∷ refuse_if (not t) 11 ∷ [])) (sym (leasts_drawn f hs ls ms p q a))
 
 -- which holds of no request without leasts whose end charge is in reach and fits the store
-pub no_leasts : (f : Figures) (hs ls : List ℕ) → length ls ≡ length hs → f.end ≤ f.capacity →
-    ls ≡ replicate (length ls) 0 → is_none (out_of_reach (request f hs)) ≡ true → none ≡ first_of (unreachable_by f hs ls)
-no_leasts f hs ls p q z e =
-    let zeros : ls ≡ replicate (length hs) 0 = z ∙ ap (λ (n : ℕ). replicate n 0) p in
-    let feasible : feasible_from f.capacity f.end f.start hs ls ≡ true =
-    ap (feasible_from f.capacity f.end f.start hs) zeros
-    ∙ zeros_feasible f.capacity f.end f.start hs q (reach_within (request f hs) e) in
+pub no_leasts : (r : Request) (ls : List ℕ) → length ls ≡ frame_count r →
+    r.figures.end ≤ r.figures.capacity → ls ≡ replicate (length ls) 0 → is_none (out_of_reach r) ≡ true →
+    none ≡ first_of (unreachable_by r ls)
+no_leasts r ls p q z e =
+    let f = r.figures in
+    let zeros : ls ≡ replicate (frame_count r) 0 = z ∙ ap (λ (n : ℕ). replicate n 0) p in
+    let feasible : drawable r ls ≡ true =
+    ap (drawable r) zeros
+    ∙ zeros_feasible f.capacity f.end f.start r.harvest q (reach_within r e) in
     rw (e, feasible) refl
 
 -- and with a store for all there is it is 11 without limit

@@ -1,7 +1,7 @@
 -- What it says of a request that none of its refusals holds.
 use mathlib.Core.Path.{◌≡◌, refl, ap}
 use mathlib.Core.Bool.{Bool, true, false, not}
-use mathlib.Core.List.{[], ◌∷◌, ◌++◌}
+use mathlib.Core.List.{List, [], ◌∷◌, ◌++◌, map}
 use Prim.Native.Nat.{ℕ, suc, ◌≤◌}
 use native.Mathlib.Omega.{arith}
 use lib.Dec.{ltb, eqb}
@@ -109,21 +109,18 @@ served_within r e =
     }
 
 -- planning is not refused
-pub record PlanWithin (r : Request) (l m n : ℕ) : Type 0 where
+pub record PlanWithin (r : Request) (l m : ℕ) (ns : List ℕ) : Type 0 where
   pub lent : LentWithin (frame_count r) l m
-  pub budgets : n ≡ frame_count r
+  pub written : AllNone (map (R.wrong_length (frame_count r)) ns)
   pub served : ServedWithin r
 
-pub plan_within : (r : Request) (l m n : ℕ) → is_none (R.plan_refusal r l m n) ≡ true → PlanWithin r l m n
-plan_within r l m n e =
+pub plan_within : (r : Request) (l m : ℕ) (ns : List ℕ) → is_none (R.plan_refusal r l m ns) ≡ true → PlanWithin r l m ns
+plan_within r l m ns e =
     let k = frame_count r in
-    let a = both_none (R.lent_refusals k l m) (R.wrong_length k n ∷ R.served_refusals r)
-    (first_none (R.plan_refusals r l m n) e) in
-    record {
-      lent = lent_within k l m a.0;
-      budgets = length_within k n a.1.0;
-      served = served_within r a.1.1;
-    }
+    let a = both_none (R.lent_refusals k l m) (map (R.wrong_length k) ns ++ R.served_refusals r)
+    (first_none (R.plan_refusals r l m ns) e) in
+    let b = both_none (map (R.wrong_length k) ns) (R.served_refusals r) a.1 in
+    record { lent = lent_within k l m a.0; written = b.0; served = served_within r b.1 }
 
 -- starting a shift is not refused
 pub record StartWithin (r : Request) (l m : ℕ) : Type 0 where

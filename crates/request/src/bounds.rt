@@ -1,11 +1,12 @@
 // The limits of a request's leasts and mosts: refusal 10.
 ghost use Rattle.std.specs.Prelude.{◌≡◌, true, ℕ, ◌≤◌, ◌^◌, length};
-ghost use Rattle.model.specs.Answer.{refused};
+ghost use Rattle.model.specs.Answer.{asked, refused};
 ghost use Rattle.model.specs.Request.{bounds, bounds_of};
 ghost use Rattle.model.specs.Refusals.{bad_bounds, bounds_refused, none};
 
-use model::Refusal;
+use crate::whole::Whole;
 use model::limits::{MAX_BOUND, NO_UPPER_END};
+use model::{Lists, Refusal};
 
 // Whether no frame may have these bounds: the least above the most, or either above its limit. By `|` and `&`, which
 // make no branch.
@@ -26,13 +27,12 @@ fn all_good(least: &[u32], most: &[u32]) -> bool
         .fold(true, |good, (l, m)| good & !bad_bounds(*l, *m))
 }
 
-// Refusal 10, whose P is the earliest frame with such bounds; the lists begin with frame number first. That they are of
-// one length stays a clause, and no `Whole` is asked for: planning the rest lends parts of its lists, with no figures.
-pub fn check_bounds(least: &[u32], most: &[u32], first: u64) -> Result<(), Refusal>
-    requires first_bound { first ≤ 2 ^ 32 }
-    requires least_len { length least.now ≡ length most.now }
-    ensures { refused result ≡ bounds_refused first (bounds_of least.now most.now) }
+// Refusal 10, whose P is the earliest frame with such bounds; the lists begin with frame number first.
+pub fn check_bounds(whole: Whole, first: u64) -> Result<(), Refusal>
+    requires { first ≤ 2 ^ 32 }
+    ensures { refused result ≡ bounds_refused first (asked whole.entry.request).bounds }
 {
+    let Lists { least, most, .. } = whole.request.lists;
     if all_good(least, most) {
         return Ok(());
     }

@@ -1,5 +1,5 @@
 // The refusals of planning, the needed capacity, tracing and a shift's start, each by the list of its definition.
-ghost use Rattle.std.specs.Prelude.{◌≡◌};
+ghost use Rattle.std.specs.Prelude.{◌≡◌, [], ◌∷◌};
 ghost use Rattle.model.specs.Answer.{asked, leasts_lent, mosts_lent, refused};
 ghost use Rattle.model.specs.Request.{request};
 ghost use Rattle.model.specs.Refusals.{first_of, lent_refusals, needed_refusal, open_limits, plan_refusal};
@@ -8,7 +8,6 @@ ghost use Rattle.model.specs.Refusals.{served_refusals, start_refusal, trace_ref
 use crate::figures::{check_capacity, check_figures, check_harvest};
 use crate::frames::{check_frames, check_length};
 use crate::reach::{check_bounded, open_store};
-use crate::sums::sum;
 use crate::whole::{Whole, check_lists};
 use model::{Figures, Refusal, Request};
 
@@ -43,13 +42,15 @@ pub fn check_lent(frames: usize, least: usize, most: usize) -> Result<(), Refusa
 fn check_served(whole: Whole) -> Result<(), Refusal>
     ensures { refused result ≡ first_of (served_refusals (asked whole.entry.request)) }
 {
-    check_figures(whole.request.figures, whole.request.lists.harvest)?;
+    let Request { figures, lists } = whole.request;
+    check_figures(figures, lists.harvest)?;
     check_bounded(whole)
 }
 
 // Planning with a list of so many budgets.
 pub fn check_plan(request: Request, budgets: usize) -> Result<(), Refusal>
-    ensures { refused result ≡ plan_refusal (asked request.entry) (leasts_lent request.entry) (mosts_lent request.entry) budgets }
+    ensures { refused result ≡ plan_refusal (asked request.entry) (leasts_lent request.entry) (mosts_lent request.entry)
+        (budgets ∷ []) }
 {
     let whole = check_lists(request)?;
     check_length(request.lists.harvest.len(), budgets)?;
@@ -80,7 +81,7 @@ pub fn check_needed(request: Request) -> Result<(), Refusal>
     check_lists(request)?;
     let Request { figures, lists } = request;
     check_open(figures, lists.harvest)?;
-    let capacity = open_store(figures.start, sum(lists.harvest));
+    let capacity = open_store(request);
     let figures = Figures {
         capacity,
         ..figures

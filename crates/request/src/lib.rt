@@ -18,5 +18,5 @@ pub use figures::{check_figures, check_harvest};
 pub use frames::{check_frames, check_length};
 pub use reach::check_reachable;
 pub use refusals::check_that;
-pub use sums::sum;
+pub use sums::most_energy;
 pub use whole::{Whole, check_lists};

@@ -1,7 +1,7 @@
 -- The refusals of planning the rest and of returning its part, what their absence tells, and the promise of a part.
 use mathlib.Core.Path.{◌≡◌, refl, sym, ap, ◌∙◌}
 use mathlib.Core.Bool.{Bool, true, false, not, false≢true}
-use mathlib.Core.List.{List, [], ◌∷◌, ◌++◌}
+use mathlib.Core.List.{List, [], ◌∷◌, ◌++◌, map}
 use Prim.Native.Nat.{ℕ, suc, ◌+◌, ◌*◌, ◌≤◌, ◌<◌}
 use native.Mathlib.Omega.{arith}
 use lib.Dec.{eqb}
@@ -10,15 +10,15 @@ use borrow.Author.Tests.{eq-eqb, ne_eqb}
 use Rattle.model.specs.Refusals.{Refusal}
 use Rattle.model.specs.Choice.{pick}
 use Rattle.model.specs.Limits.{max_harvest}
-use Rattle.model.specs.Refusals.{is_none, refuse_if, first_of}
+use Rattle.model.specs.Refusals.{is_none, refuse_if, first_of, wrong_length, AllNone}
 use Rattle.model.proofs.Choice.{pick_by}
-use Rattle.model.proofs.First.{first_none, none_first, both_none, first_stopped, first_passed}
+use Rattle.model.proofs.First.{first_none, both_none}
 use Rattle.request.proofs.Harvest.{harvest_small}
 use Rattle.request.proofs.Within.{length_within}
 use Rattle.shift.specs.declared.Shift.{Shift}
-use Rattle.shift.specs.Shift.{is_shift, not_shift}
-use Rattle.rest.specs.Rest.{Lists, part_refusals, part_refusal, ready_refusals, rest_over_limit, rest_bounds}
-use Rattle.rest.specs.Rest.{rest_refusals, rest_refusal}
+use Rattle.shift.specs.Shift.{is_shift}
+use Rattle.rest.specs.Rest.{Outlook, part_refusals, part_refusal, length_refusals, rest_bounds}
+use Rattle.rest.specs.Rest.{frame_refusals, rest_refusals, rest_refusal}
 use Rattle.rest.specs.Says.{PartSays}
 use Rattle.shift.proofs.Record.{Sound, sound_by, open_frame}
 
@@ -86,68 +86,34 @@ part_returned s b part at o f q d e n =
       );
     }
 
--- what planning has before it looks at the frames
-pub record Ready (s : Shift) (h l m b : ℕ) : Type 0 where
+-- what a planning that is not refused has
+pub record RestOpen (s : Shift) (p : Outlook) (ns : List ℕ) : Type 0 where
   pub sound : Sound s
-  pub harvest_fits : h ≡ s.terms.frames
-  pub leasts_fit : l ≡ s.terms.frames
-  pub mosts_fit : m ≡ s.terms.frames
-  pub budgets_fit : b ≡ s.terms.frames
+  pub harvest_fits : length p.harvest ≡ s.terms.frames
+  pub leasts_fit : length p.wanted.least ≡ s.terms.frames
+  pub mosts_fit : length p.wanted.most ≡ s.terms.frames
+  pub written_fit : AllNone (map (wrong_length s.terms.frames) ns)
   pub more : s.now.recorded < s.terms.frames
+  pub small : (i : ℕ) → get_or (drop s.now.recorded p.harvest) i 0 ≤ max_harvest
+  pub bounds_good : is_none (rest_bounds s.now p.wanted) ≡ true
 
--- its refusals, 22 in front
-abbrev pub ready_list : Shift → ℕ → ℕ → ℕ → ℕ → List Refusal
-ready_list s h l m b = not_shift s ∷ ready_refusals s.terms s.now h l m b
-
-pub ready : (s : Shift) (h l m b : ℕ) → is_none (first_of (ready_list s h l m b)) ≡ true → Ready s h l m b
-ready s h l m b e =
+pub rest_open : (s : Shift) (p : Outlook) (ns : List ℕ) → is_none (rest_refusal s p ns) ≡ true → RestOpen s p ns
+rest_open s p ns e =
     let k = s.terms.frames in
-    let a = first_none (ready_list s h l m b) e in
-    let sound = sound_by s a.0 in
-    let more = open_frame s.terms s.now a.1.1.1.1.1.0 in
+    let n = s.now.recorded in
+    let all = first_none (rest_refusals s p ns) e in
+    let sound = sound_by s all.0 in
+    let parts = both_none (length_refusals k p ns) (frame_refusals s.terms s.now p) all.1 in
+    let lengths = parts.0 in
+    let frames = parts.1 in
+    let more = open_frame s.terms s.now frames.0 in
     record {
       sound = sound;
-      harvest_fits = length_within k h a.1.0;
-      leasts_fit = length_within k l a.1.1.0;
-      mosts_fit = length_within k m a.1.1.1.0;
-      budgets_fit = length_within k b a.1.1.1.1.0;
+      harvest_fits = length_within k (length p.harvest) lengths.0;
+      leasts_fit = length_within k (length p.wanted.least) lengths.1.0;
+      mosts_fit = length_within k (length p.wanted.most) lengths.1.1.0;
+      written_fit = lengths.1.1.1;
       more = omega arith;
-    }
-
--- the same with the lists
-abbrev pub ready_by : Shift → Lists → ℕ → List Refusal
-ready_by s p b = ready_list s (length p.harvest) (length p.least) (length p.most) b
-
--- 6 and 10 over the frames that are left
-abbrev pub frames_by : Shift → Lists → List Refusal
-frames_by s p = rest_over_limit s.now p.harvest ∷ rest_bounds s.now p.least p.most ∷ []
-
--- one of those before the frames
-pub rest_stopped :
-    (s : Shift) (p : Lists) (b : ℕ) (f : Refusal) → f ≡ first_of (ready_by s p b) → is_none f ≡ false →
-    f ≡ rest_refusal s p b
-rest_stopped s p b f e n = first_stopped (ready_by s p b) (frames_by s p) e n
-
--- none of them: what the frames say
-pub rest_limited :
-    (s : Shift) (p : Lists) (b : ℕ) (f g : Refusal) → f ≡ first_of (ready_by s p b) → is_none f ≡ true →
-    g ≡ first_of (frames_by s p) → g ≡ rest_refusal s p b
-rest_limited s p b f g e n d = first_passed (ready_by s p b) (frames_by s p) e n d
-
--- what a planning that is not refused has
-pub record RestOpen (s : Shift) (p : Lists) (b : ℕ) : Type 0 where
-  pub ready : Ready s (length p.harvest) (length p.least) (length p.most) b
-  pub small : (i : ℕ) → get_or (drop s.now.recorded p.harvest) i 0 ≤ max_harvest
-  pub bounds_good : is_none (rest_bounds s.now p.least p.most) ≡ true
-
-pub rest_open : (s : Shift) (p : Lists) (b : ℕ) → is_none (rest_refusal s p b) ≡ true → RestOpen s p b
-rest_open s p b e =
-    let n = s.now.recorded in
-    let x = both_none (ready_by s p b) (frames_by s p) (first_none (rest_refusals s p b) e) in
-    record {
-      ready =
-          ready s (length p.harvest) (length p.least) (length p.most) b
-          (ap is_none (none_first (ready_by s p b) x.0));
-      small = harvest_small (suc n) (drop n p.harvest) x.1.0;
-      bounds_good = x.1.1.0;
+      small = harvest_small (suc n) (drop n p.harvest) frames.1.0;
+      bounds_good = frames.1.1.0;
     }

@@ -1,27 +1,27 @@
 -- Planning the rest: what the planner asks is there, and the promise of each of its three answers.
 use mathlib.Core.Path.{◌≡◌, refl, sym, ap, subst, ◌∙◌}
 use mathlib.Core.Bool.{true, false, false≢true}
-use mathlib.Core.List.{List, ◌++◌, append-nil}
+use mathlib.Core.List.{List, [], ◌∷◌, ◌++◌, append-nil}
 use Prim.Native.Nat.{ℕ, suc, ◌-◌}
 use native.Mathlib.Omega.{arith}
 use lib.ListN.{length, take, drop, length-append, length-drop, drop_of_length-le}
 use lib.Seq.{length-take-le, take_at, drop_at}
 use borrow.Author.Tests.{not-true, not-false}
 use borrow.Rule.Slice.PartMut.{put_mid}
-use Rattle.model.specs.Request.{Request, figures, bounds_of, bounded_request}
+use Rattle.model.specs.Request.{Request, bounds_of}
 use Rattle.model.specs.Charge.{all_within}
 use Rattle.model.specs.Refusals.{is_none, reachable, gives, refuses}
 use Rattle.model.specs.Reward.{IsPlan}
 use Rattle.model.specs.Plan.{plan_of}
 use Rattle.model.proofs.Reach.{none_feasible}
 use Rattle.model.proofs.Requests.{plan_is}
+use Rattle.request.proofs.Within.{length_within}
 use Rattle.request.proofs.Leasts.{leasts_are, leasts_in_lem}
-use Rattle.rest.specs.Rest.{Lists, Fillable, zeros}
+use Rattle.rest.specs.Rest.{Outlook, Fillable, zeros}
 use Rattle.rest.proofs.Ending.{rest_length}
 use Rattle.model.proofs.Choice.{pick_by}
 use Rattle.shift.specs.declared.Shift.{Shift}
 use Rattle.rest.specs.declared.Rest.{Rest}
-use Rattle.model.specs.declared.Lists.{Lists as Lent}
 use Rattle.model.specs.declared.refusal.Refusal.{Refusal as Given}
 use Rattle.model.specs.Answer.{told}
 use Rattle.model.proofs.Answer.{told_some}
@@ -39,10 +39,11 @@ put_is n b ys =
 
 -- planning's promise, refused
 pub rest_refused :
-    (s : Shift) (p : Lists) (b : List ℕ) (e : Given) → told e ≡ rest_refusal s p (length b) → RestSays s p b b (Err e)
+    (s : Shift) (p : Outlook) (b : List ℕ) (e : Given) → told e ≡ rest_refusal s p (length b ∷ []) →
+    RestSays s p b b (Err e)
 rest_refused s p b e d =
     let q = rest_request s p in
-    let g = rest_refusal s p (length b) in
+    let g = rest_refusal s p (length b ∷ []) in
     let no : is_none g ≡ false = ap is_none (sym d) ∙ told_some e in
     record {
       answer = ap refuses d ∙ sym (pick_by (is_none g) false (gives (ending_of q)) (refuses g) no);
@@ -57,10 +58,13 @@ rest_refused s p b e d =
     }
 
 -- a planning that is not refused
-module _ (s : Shift) (p : Lists) (b : List ℕ) (clear : is_none (rest_refusal s p (length b)) ≡ true) where
+module _ (s : Shift) (p : Outlook) (b : List ℕ) (clear : is_none (rest_refusal s p (length b ∷ [])) ≡ true) where
   -- what is known of it
-  pub opened_rest : RestOpen s p (length b)
-  opened_rest = rest_open s p (length b) clear
+  pub opened_rest : RestOpen s p (length b ∷ [])
+  opened_rest = rest_open s p (length b ∷ []) clear
+
+  budgets_fit : length b ≡ s.terms.frames
+  budgets_fit = length_within s.terms.frames (length b) opened_rest.written_fit.0
 
   -- its budgets can be filled
   pub rest_fillable : Fillable (rest_request s p)
@@ -68,18 +72,18 @@ module _ (s : Shift) (p : Lists) (b : List ℕ) (clear : is_none (rest_refusal s
       let o = opened_rest in
       let n = s.now.recorded in
       let k = length-drop n p.harvest in
-      let l = length-drop n p.least in
-      let m = length-drop n p.most in
+      let l = length-drop n p.wanted.least in
+      let m = length-drop n p.wanted.most in
       record {
-        capacity_low = o.ready.sound.terms.capacity_low;
-        start_low = o.ready.sound.now.charge_low;
-        end_low = o.ready.sound.terms.end_low;
+        capacity_low = o.sound.terms.capacity_low;
+        start_low = o.sound.now.charge_low;
+        end_low = o.sound.terms.end_low;
         few = omega arith;
         small = o.small;
         leasts_within =
-            ap (all_within (bounds_of (drop n p.least) (drop n p.most)))
-            (leasts_are (drop n p.harvest) (drop n p.least) (drop n p.most) (omega arith) (omega arith))
-            ∙ leasts_in_lem (suc n) (drop n p.least) (drop n p.most) o.bounds_good;
+            ap (all_within (bounds_of (drop n p.wanted.least) (drop n p.wanted.most)))
+            (leasts_are (drop n p.harvest) (drop n p.wanted.least) (drop n p.wanted.most) (omega arith) (omega arith))
+            ∙ leasts_in_lem (suc n) (drop n p.wanted.least) (drop n p.wanted.most) o.bounds_good;
       }
 
   -- the promise of any answer that tells how the rest ends and writes its budgets
@@ -89,8 +93,9 @@ module _ (s : Shift) (p : Lists) (b : List ℕ) (clear : is_none (rest_refusal s
   rest_done a ys e d =
       let q = rest_request s p in
       let n = s.now.recorded in
-      let f = rest_refusal s p (length b) in
+      let f = rest_refusal s p (length b ∷ []) in
       let o = opened_rest in
+      let l = budgets_fit in
       let k : length (take n b) ≡ n = length-take-le n b (omega arith) in
       let z : drop n (take n b ++ ys) ≡ rest_budgets q = drop_at (take n b) ys n k ∙ d in
       record {
@@ -105,7 +110,7 @@ module _ (s : Shift) (p : Lists) (b : List ℕ) (clear : is_none (rest_refusal s
               plan =
                   λ y x.
                   subst (IsPlan q) (sym (z ∙ pick_by (ending_of q).short false (zeros q) (plan_of q) x))
-                  (plan_is q o.ready.sound.now.charge_low o.ready.sound.terms.end_low
+                  (plan_is q o.sound.now.charge_low o.sound.terms.end_low
                   (not-false (reachable q) x));
               none_feasible = λ y x. none_feasible q (not-true (reachable q) x);
             };
@@ -118,18 +123,3 @@ module _ (s : Shift) (p : Lists) (b : List ℕ) (clear : is_none (rest_refusal s
   rest_filled q k a ys e d =
       subst (λ (b' : List ℕ). RestSays s p b b' (Ok a)) (sym (put_is s.now.recorded b ys))
       (rest_done a ys (e ∙ ap ending_of k) (d ∙ ap rest_budgets k))
-
--- the rest as it is lent on
-pub lent_is : (s : Shift) (p : Lists) →
-    bounded_request (figures s.terms.capacity s.now.charge s.terms.end) (drop s.now.recorded p.harvest)
-    (drop s.now.recorded p.least) (drop s.now.recorded p.most)
-    ≡ rest_request s p
-lent_is s p = refl
-
--- the same of lists that hold these parts
-pub lent_as : (s : Shift) (p : Lists) (a : Lent) →
-    a.harvest.now ≡ drop s.now.recorded p.harvest → a.least.now ≡ drop s.now.recorded p.least →
-    a.most.now ≡ drop s.now.recorded p.most →
-    bounded_request (figures s.terms.capacity s.now.charge s.terms.end) a.harvest.now a.least.now a.most.now
-    ≡ rest_request s p
-lent_as s p a h l m = rw (h, l, m) (lent_is s p)

@@ -1,8 +1,8 @@
 -- The rest of a shift: the request it stands for, its refusals, when it is short, and its budgets.
-use Rattle.std.specs.Prelude.{◌≡◌, Bool, true, false, not, List, [], ◌∷◌, ◌++◌, ℕ, suc, ◌+◌, ◌-◌, ◌≤◌, ℤ, pos, negsuc, length, get_or, take, drop, replicate}
+use Rattle.std.specs.Prelude.{◌≡◌, Bool, true, false, not, ℕ, suc, ◌+◌, ◌-◌, ◌≤◌, ℤ, pos, negsuc}
+use Rattle.std.specs.Prelude.{List, [], ◌∷◌, ◌++◌, map, length, get_or, take, drop, replicate}
 use Rattle.model.specs.Refusals.{Refusal}
 use Rattle.model.specs.Choice.{pick}
-use Rattle.model.specs.declared.Lists.{Lists as Lent}
 use Rattle.model.specs.Limits.{max_frames, max_harvest, max_capacity}
 use Rattle.model.specs.Request.{Request, figures, bounds_of, bounded_request, frame_count, leasts}
 use Rattle.model.specs.Refusals.{first_of, is_none, wrong_length, harvest_over_limit, bounds_refused, reachable}
@@ -14,59 +14,63 @@ use Rattle.shift.specs.declared.Terms.{Terms}
 use Rattle.shift.specs.declared.Present.{Present}
 use Rattle.shift.specs.declared.Shift.{Shift}
 use Rattle.shift.specs.Shift.{not_shift, all_recorded}
+use Rattle.rest.specs.declared.outlook.Outlook.{Outlook as Lent}
 
--- what planning the rest is lent to go by: a harvest, a least and a most for each frame
-pub record Lists : Type 0 where
-  pub harvest : List ℕ
+-- what is wanted of the rest: a least and a most for each frame
+pub record Wanted : Type 0 where
   pub least : List ℕ
   pub most : List ℕ
 
-abbrev pub lists : List ℕ → List ℕ → List ℕ → Lists
-lists hs ls ms = record { harvest = hs; least = ls; most = ms }
+-- what planning the rest goes by: a harvest for each frame, and what is wanted
+pub record Outlook : Type 0 where
+  pub harvest : List ℕ
+  pub wanted : Wanted
 
--- the lists that are lent
-abbrev pub lent : Lent → Lists
-lent a = lists a.harvest.now a.least.now a.most.now
+-- the outlook with those harvests, leasts and mosts
+abbrev pub outlook : List ℕ → List ℕ → List ℕ → Outlook
+outlook hs ls ms = record { harvest = hs; wanted = record { least = ls; most = ms } }
+
+-- the outlook that is lent
+abbrev pub lent : Lent → Outlook
+lent a = outlook a.harvest.now a.wanted.least.now a.wanted.most.now
 
 -- the rest as a request: the present charge for the start charge, and only the frames not yet recorded
-abbrev pub rest_of : Terms → Present → Lists → Request
+abbrev pub rest_of : Terms → Present → Outlook → Request
 rest_of k n p =
     let i = n.recorded in
-    bounded_request (figures k.capacity n.charge k.end) (drop i p.harvest) (drop i p.least)
-    (drop i p.most)
+    bounded_request (figures k.capacity n.charge k.end) (drop i p.harvest) (drop i p.wanted.least)
+    (drop i p.wanted.most)
 
-abbrev pub rest_request : Shift → Lists → Request
+abbrev pub rest_request : Shift → Outlook → Request
 rest_request s p = rest_of s.terms s.now p
 
--- the refusals of planning but 22 that come before the frames are looked at, with h harvests, l leasts, m mosts and b
--- budgets
-abbrev pub ready_refusals : Terms → Present → ℕ → ℕ → ℕ → ℕ → List Refusal
-ready_refusals k n h l m b =
-    wrong_length k.frames h
-    ∷ wrong_length k.frames l
-    ∷ wrong_length k.frames m
-    ∷ wrong_length k.frames b
-    ∷ all_recorded k n
-    ∷ []
+-- the lengths of an outlook's lists
+abbrev pub lengths_of : Outlook → List ℕ
+lengths_of p = length p.harvest ∷ length p.wanted.least ∷ length p.wanted.most ∷ []
+
+-- 7 of each of them, and of lists of lengths ns that are written, of K frames
+abbrev pub length_refusals : ℕ → Outlook → List ℕ → List Refusal
+length_refusals k p ns = map (wrong_length k) (lengths_of p ++ ns)
 
 -- 6 and 10 over the unrecorded frames
 abbrev pub rest_over_limit : Present → List ℕ → Refusal
 rest_over_limit n hs = harvest_over_limit (suc n.recorded) (drop n.recorded hs)
 
-abbrev pub rest_bounds : Present → List ℕ → List ℕ → Refusal
-rest_bounds n ls ms = bounds_refused (suc n.recorded) (bounds_of (drop n.recorded ls) (drop n.recorded ms))
+abbrev pub rest_bounds : Present → Wanted → Refusal
+rest_bounds n w = bounds_refused (suc n.recorded) (bounds_of (drop n.recorded w.least) (drop n.recorded w.most))
 
--- all refusals of planning but 22, with b budgets
-abbrev pub planning_refusals : Terms → Present → Lists → ℕ → List Refusal
-planning_refusals k n p b =
-    ready_refusals k n (length p.harvest) (length p.least) (length p.most) b
-    ++ (rest_over_limit n p.harvest ∷ rest_bounds n p.least p.most ∷ [])
+-- those of planning that come after 7, and all but 22, with lists of lengths ns that are written
+abbrev pub frame_refusals : Terms → Present → Outlook → List Refusal
+frame_refusals k n p = all_recorded k n ∷ rest_over_limit n p.harvest ∷ rest_bounds n p.wanted ∷ []
 
-abbrev pub rest_refusals : Shift → Lists → ℕ → List Refusal
-rest_refusals s p b = not_shift s ∷ planning_refusals s.terms s.now p b
+abbrev pub planning_refusals : Terms → Present → Outlook → List ℕ → List Refusal
+planning_refusals k n p ns = length_refusals k.frames p ns ++ frame_refusals k n p
 
-abbrev pub rest_refusal : Shift → Lists → ℕ → Refusal
-rest_refusal s p b = first_of (rest_refusals s p b)
+abbrev pub rest_refusals : Shift → Outlook → List ℕ → List Refusal
+rest_refusals s p ns = not_shift s ∷ planning_refusals s.terms s.now p ns
+
+abbrev pub rest_refusal : Shift → Outlook → List ℕ → Refusal
+rest_refusal s p ns = first_of (rest_refusals s p ns)
 
 -- the refusals of returning the rest's part of b budgets
 abbrev pub part_refusals : Shift → ℕ → List Refusal
@@ -97,15 +101,14 @@ abbrev pub missing_to : ℕ → ℤ → ℕ
 missing_to e (pos x) = e - x
 missing_to e (negsuc n) = e + suc n
 
--- short: by refusal 9 or 11 the rest cannot be served; missing is what the end charge misses with budgets 0, which may
--- be nothing
+-- what the end charge misses with budgets 0, which may be nothing
+abbrev pub missing_with_zeros : Request → ℕ
+missing_with_zeros q = missing_to q.figures.end (last_from (pos q.figures.start) (trace q (zeros q)))
+
+-- short: by refusal 9 or 11 the rest cannot be served; missing is what budgets 0 miss
 abbrev pub ending_of : Request → Ending
 ending_of q =
-    record {
-      short = not (reachable q);
-      missing =
-          pick (reachable q) 0 (missing_to q.figures.end (last_from (pos q.figures.start) (trace q (zeros q))));
-    }
+    record { short = not (reachable q); missing = pick (reachable q) 0 (missing_with_zeros q) }
 
 -- the budgets of the rest: its plan, or zeros when short
 abbrev pub rest_budgets : Request → List ℕ
@@ -123,6 +126,10 @@ pub record Fillable (q : Request) : Type 0 where
 -- a budget list after planning: budgets bs from place n on, earlier entries kept
 abbrev pub written_from : ℕ → List ℕ → List ℕ → List ℕ
 written_from n b bs = take n b ++ bs
+
+-- budgets b with those of the rest from the next frame on
+abbrev pub replanned : Terms → Present → Outlook → List ℕ → List ℕ
+replanned k n p b = written_from n.recorded b (rest_budgets (rest_of k n p))
 
 -- what a planning means that has refusal f, n frames recorded and rest q, and makes budgets b' of b
 pub record RestMeans (f : Refusal) (n : ℕ) (q : Request) (b b' : List ℕ) : Type 0 where

@@ -1,6 +1,6 @@
 -- What planning the rest and returning its part promise: the answer and every lent list by an equation, then what the
 -- answer means.
-use Rattle.std.specs.Prelude.{◌≡◌, true, List, [], ◌++◌, ℕ, ◌+◌, ◌*◌, ◌<◌, length, take, Result, Ok, Err}
+use Rattle.std.specs.Prelude.{◌≡◌, true, List, [], ◌∷◌, ◌++◌, ℕ, ◌+◌, ◌*◌, ◌<◌, length, take, Result, Ok, Err}
 use Rattle.std.specs.Borrow.{Bor}
 use Rattle.model.specs.Choice.{pick}
 use Rattle.model.specs.Refusals.{Refusal, none, Outcome, gives, refuses, outcome, is_none}
@@ -9,8 +9,8 @@ use Rattle.model.specs.Answer.{told}
 use Rattle.shift.specs.declared.Shift.{Shift}
 use Rattle.rest.specs.declared.Rest.{Rest}
 use Rattle.rest.specs.declared.Rest.TheVariants as rest
-use Rattle.rest.specs.Rest.{Lists, Ending, not_short, ending_of, rest_request, rest_refusal, rest_budgets}
-use Rattle.rest.specs.Rest.{part_refusal, part_of, written_from, RestMeans}
+use Rattle.rest.specs.Rest.{Outlook, Ending, not_short, ending_of, rest_request, rest_refusal}
+use Rattle.rest.specs.Rest.{part_refusal, part_of, replanned, RestMeans}
 
 -- how a planning not refused ended
 abbrev pub ended : Rest → Ending
@@ -22,19 +22,14 @@ abbrev pub rest_said : Result Rest Given → Outcome Ending
 rest_said (Ok a) = gives (ended a)
 rest_said (Err e) = refuses (told e)
 
--- planning the rest by the lists lent: budgets b before, b' after
-pub record RestSays (s : Shift) (p : Lists) (b b' : List ℕ) (a : Result Rest Given) : Type 0 where
+-- planning the rest by that outlook: budgets b before, b' after
+pub record RestSays (s : Shift) (p : Outlook) (b b' : List ℕ) (a : Result Rest Given) : Type 0 where
   -- planned, short with the missing amount, or the first refusal
-  pub answer : rest_said a ≡ outcome (rest_refusal s p (length b)) (ending_of (rest_request s p))
+  pub answer : rest_said a ≡ outcome (rest_refusal s p (length b ∷ [])) (ending_of (rest_request s p))
   -- the rest's budgets from the next frame on, earlier entries kept; after a refusal all of them
-  pub budgets :
-      b'
-      ≡ pick
-      (is_none (rest_refusal s p (length b)))
-      (written_from s.now.recorded b (rest_budgets (rest_request s p)))
-      b
+  pub budgets : b' ≡ pick (is_none (rest_refusal s p (length b ∷ []))) (replanned s.terms s.now p b) b
   -- planned: the plan of the rest; short: nothing is feasible
-  pub means : RestMeans (rest_refusal s p (length b)) s.now.recorded (rest_request s p) b b'
+  pub means : RestMeans (rest_refusal s p (length b ∷ [])) s.now.recorded (rest_request s p) b b'
 
 -- the part of budgets b that begins at the next frame: its contents, its position from the lent list's, and number
 -- and P of the refusal

@@ -6,8 +6,7 @@ ghost use Rattle.rest.specs.Says.{ended};
 
 use crate::Rest;
 use leveller::Task;
-use model::Request;
-use request::{Whole, check_reachable, sum};
+use request::{Whole, check_reachable};
 
 // Writes the plan, or zeros where by refusal 9 or 11 there is none. What zeros miss of the end charge is P of that
 // refusal.
@@ -17,14 +16,11 @@ pub fn fill(whole: Whole, budgets: &mut [u32]) -> Rest
     ensures ending { ended result ≡ ending_of (asked whole.entry.request) }
     ensures written { budgets.new ≡ rest_budgets (asked whole.entry.request) }
 {
-    let request = whole.request;
-    let Request { figures, lists } = request;
-    if let Err(unreachable) = check_reachable(figures, lists.harvest, lists.least) {
+    if let Err(unreachable) = check_reachable(whole) {
         let missing = unreachable.p();
         budgets.fill(0);
         return Rest::Short(missing);
     }
-    let energy = figures.start as u64 + sum(lists.harvest);
-    Task::of_request(request, energy).plan_into(budgets);
+    Task::of(whole.request).plan_into(budgets);
     Rest::Planned
 }

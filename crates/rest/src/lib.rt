@@ -4,15 +4,17 @@
 ghost use Rattle.rest.specs.Rest.{lent};
 ghost use Rattle.rest.specs.Says.{PartIs, RestSays, part_as};
 
-use crate::part::rest_lists;
 use crate::refusals::{check_part, check_rest};
-use model::{Figures, Lists, Refusal, Request};
-use request::Whole;
+use crate::rest_request::rest_request;
+use model::Refusal;
 use shift::Shift;
 
 mod fill;
-mod part;
+mod outlook;
 mod refusals;
+mod rest_request;
+
+pub use outlook::{Outlook, Wanted};
 
 // How planning the rest ends; short comes with what zero budgets miss of the end charge, which may be nothing. No
 // Option: C and the definitions have both names, and `Some(missing)` would not say that the plan is missing.
@@ -22,23 +24,14 @@ pub enum Rest {
     Short(u64),
 }
 
-// Plans the rest of a shift by the lists lent. The unrecorded part of the budgets is lent on, to be filled with the
+// Plans the rest of a shift by an outlook. The unrecorded part of the budgets is lent on, to be filled with the
 // plan, or with zeros where the rest is short.
-pub fn plan_rest(shift: Shift, lists: Lists, budgets: &mut [u32]) -> Result<Rest, Refusal>
-    ensures { RestSays shift (lent lists.entry) budgets.old budgets.new result }
+pub fn plan_rest(shift: Shift, outlook: Outlook, budgets: &mut [u32]) -> Result<Rest, Refusal>
+    ensures { RestSays shift (lent outlook.entry) budgets.old budgets.new result }
 {
-    check_rest(shift, lists, budgets.len())?;
-    let figures = Figures {
-        capacity: shift.terms.capacity,
-        start: shift.now.charge,
-        end: shift.terms.end,
-    };
-    let next = shift.now.recorded as usize;
-    let lists = rest_lists(lists, next);
-    let whole = Whole {
-        request: Request { figures, lists },
-    };
-    Ok(fill::fill(whole, &mut budgets[next..]))
+    check_rest(shift, outlook, budgets.len())?;
+    let whole = rest_request(shift, outlook);
+    Ok(fill::fill(whole, &mut budgets[shift.now.recorded as usize..]))
 }
 
 // The part of the budgets that begins at the next frame, lying where they lie.

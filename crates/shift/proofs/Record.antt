@@ -3,25 +3,24 @@ use mathlib.Core.Path.{◌≡◌, refl, sym, ap, ◌∙◌}
 use mathlib.Core.Bool.{Bool, true, false, ◌&&◌, not, false≢true}
 use mathlib.Core.List.{List, [], ◌∷◌}
 use Prim.Native.Nat.{ℕ, suc, ◌+◌, ◌-◌, ◌*◌, ◌≤◌, ◌<◌}
-use native.Mathlib.Numerals.{add-one}
 use native.Mathlib.Omega.{arith}
 use lib.Dec.{eqb, ltb, leb}
-use borrow.Author.Tests.{leb-true, eqb-true, eqb-false, ltb-false, not-false, le-leb, eq-eqb, ne_eqb, lt-ltb, le-ltb}
+use borrow.Author.Tests.{leb-true, eqb-true, eqb-false, ltb-false, not-false, le-leb, eq-eqb}
 use Rattle.model.specs.Refusals.{Refusal}
 use Rattle.model.specs.Choice.{pick}
 use Rattle.model.specs.Limits.{max_frames, max_harvest, max_capacity}
 use Rattle.model.specs.Refusals.{refusal, none, is_none, first_of}
-use Rattle.model.specs.Charge.{at_hand, frame_end}
+use Rattle.model.specs.Charge.{at_hand}
 use Rattle.model.proofs.Tests.{both}
-use Rattle.model.proofs.Choice.{pick_by}
 use Rattle.model.proofs.First.{first_none}
 use Rattle.request.proofs.Harvest.{harvest_small}
 use Rattle.shift.specs.declared.Terms.{Terms}
 use Rattle.shift.specs.declared.Present.{Present}
+use Rattle.shift.specs.declared.Typed.{Typed}
 use Rattle.shift.specs.declared.Shift.{Shift}
-use Rattle.shift.specs.Shift.{are_terms, is_present, is_shift, not_shift, all_recorded, use_too_great, record_refusals}
-use Rattle.shift.specs.Shift.{record_refusal, recorded_by}
-use Rattle.shift.specs.Says.{RecordSays}
+use Rattle.shift.specs.Shift.{are_terms, balances, is_present, is_shift, not_shift, all_recorded, use_too_great, record_refusals}
+use Rattle.shift.specs.Shift.{drawn, record_refusal, recorded_by}
+use Rattle.shift.specs.Says.{HandingSays, RecordSays}
 
 -- a test that would bring a contradiction doesn't hold
 pub refuted : (t : Bool) → (t ≡ true → ⊥) → t ≡ false
@@ -42,10 +41,6 @@ alone false = refl
 pub and_true : (t u : Bool) → t ≡ true → u ≡ t && u
 and_true true u e = refl
 and_true false u e = absurd (false≢true e)
-
-pub and_false : (t u : Bool) → t ≡ false → false ≡ t && u
-and_false true u e = absurd (false≢true (sym e))
-and_false false u e = refl
 
 -- the tests of terms as facts
 pub record TermsHold (k : Terms) : Type 0 where
@@ -104,15 +99,11 @@ present_holds k n e =
       balanced = eqb-true _ _ d.0;
     }
 
--- figures without one of them
-pub no_present : (k : Terms) (n : Present) → (PresentHolds k n → ⊥) → false ≡ is_present k n
-no_present k n h = sym (refuted (is_present k n) (λ (e : is_present k n ≡ true). h (present_holds k n e)))
-
 -- figures with all but the last of them
 pub by_balance :
     (k : Terms) (n : Present) (t : Bool) → n.recorded ≤ k.frames → n.charge ≤ k.capacity →
     n.totals.harvested ≤ max_harvest * n.recorded →
-    t ≡ eqb (k.start + n.totals.harvested) (n.charge + n.totals.used + n.totals.lost) → t ≡ is_present k n
+    t ≡ balances k n → t ≡ is_present k n
 by_balance k n t a b c e = rw (le-leb _ _ a, le-leb _ _ b, le-leb _ _ c, sym e) (alone t)
 
 -- figures with all of them
@@ -135,16 +126,6 @@ is_sound s h =
     sym (and_true (are_terms s.terms) (is_present s.terms s.now) (are_terms_lem s.terms h.terms))
     ∙ is_present_lem s.terms s.now h.now
 
--- what is left is the loss
-pub loss_left : (s h x u l : ℕ) → x ≤ s + h → u ≤ s + h - x → eqb (s + h - x - u) l ≡ eqb (s + h) (x + u + l)
-loss_left s h x u l p r = go (eqb (s + h - x - u) l) refl
-  where
-    go : (t : Bool) → eqb (s + h - x - u) l ≡ t → t ≡ eqb (s + h) (x + u + l)
-    go true e = let d = eqb-true (s + h - x - u) l e in sym (eq-eqb (s + h) (x + u + l) (omega arith))
-    go false e =
-        let d = eqb-false (s + h - x - u) l e in
-        sym (ne_eqb (s + h) (x + u + l) (λ (q : s + h ≡ x + u + l). d (omega arith)))
-
 -- past 22
 pub past_22 : (s : Shift) (fs : List Refusal) → is_shift s ≡ true → first_of (not_shift s ∷ fs) ≡ first_of fs
 past_22 s fs e = ap (λ (t : Bool). first_of (pick (not t) (refusal 22 0) none ∷ fs)) e
@@ -157,46 +138,35 @@ sound_by s e = sound_of s (not-false (is_shift s) (untested (not (is_shift s)) (
 pub open_frame : (k : Terms) (n : Present) → is_none (all_recorded k n) ≡ true → n.recorded ≡ k.frames → ⊥
 open_frame k n e = eqb-false n.recorded k.frames (untested (eqb n.recorded k.frames) (refusal 20 0) refl e)
 
--- 21 by what is at hand: of a use above it, of none other
-module _ (k : Terms) (n : Present) (h u : ℕ) where
-  abbrev hand : ℕ
-  hand = at_hand k.capacity n.charge h
-
-  pub use_above : hand < u → use_too_great k n h u ≡ refusal 21 (u - hand)
-  use_above l = pick_by (ltb hand u) true (refusal 21 (u - hand)) none (lt-ltb hand u l)
-
-  pub use_within : u ≤ hand → use_too_great k n h u ≡ none
-  use_within l = pick_by (ltb hand u) false (refusal 21 (u - hand)) none (le-ltb hand u l)
-
-  pub use_enough : is_none (use_too_great k n h u) ≡ true → u ≤ hand
-  use_enough e = ltb-false hand u (untested (ltb hand u) (refusal 21 (u - hand)) refl e)
-
-  -- no 21 has P 0
-  pub use_none : is_none (use_too_great k n h u) ≡ true → use_too_great k n h u ≡ none
-  use_none e = use_within (use_enough e)
+-- no 21 tells that what is drawn is at hand
+pub use_enough : (k : Terms) (n : Present) (t : Typed) → is_none (use_too_great k n t) ≡ true →
+    drawn t ≤ at_hand k.capacity n.charge t.harvest
+use_enough k n t e =
+    let hand = at_hand k.capacity n.charge t.harvest in
+    ltb-false hand (drawn t) (untested (ltb hand (drawn t)) (refusal 21 (drawn t - hand)) refl e)
 
 -- what a recording that is not refused has
-pub record Passed (s : Shift) (h u : ℕ) : Type 0 where
+pub record Passed (s : Shift) (t : Typed) : Type 0 where
   pub sound : Sound s
   pub more : s.now.recorded < s.terms.frames
-  pub small : h ≤ max_harvest
-  pub enough : u ≤ at_hand s.terms.capacity s.now.charge h
+  pub small : t.harvest ≤ max_harvest
+  pub enough : drawn t ≤ at_hand s.terms.capacity s.now.charge t.harvest
 
-pub passed : (s : Shift) (h u : ℕ) → is_none (record_refusal s h u) ≡ true → Passed s h u
-passed s h u e =
-    let a = first_none (record_refusals s h u) e in
+pub passed : (s : Shift) (t : Typed) → is_none (record_refusal s t) ≡ true → Passed s t
+passed s t e =
+    let a = first_none (record_refusals s t) e in
     let sound = sound_by s a.0 in
     let more = open_frame s.terms s.now a.1.0 in
     record {
       sound = sound;
       more = omega arith;
-      small = harvest_small (suc s.now.recorded) (h ∷ []) a.1.1.0 0;
-      enough = use_enough s.terms s.now h u a.1.1.1.0;
+      small = harvest_small (suc s.now.recorded) (t.harvest ∷ []) a.1.1.0 0;
+      enough = use_enough s.terms s.now t a.1.1.1.0;
     }
 
 -- a recorded shift is a shift
-pub recorded_sound : (s : Shift) (h u : ℕ) → Passed s h u → Sound (recorded_by s h u)
-recorded_sound s h u p =
+pub recorded_sound : (s : Shift) (t : Typed) → Passed s t → Sound (recorded_by s t)
+recorded_sound s t p =
     record {
       terms = p.sound.terms;
       now =
@@ -208,42 +178,25 @@ recorded_sound s h u p =
           };
     }
 
--- recording's promise of any shift that is the one due
-pub record_says :
-    (s : Shift) (h u : ℕ) (f : Refusal) (t : Shift) → f ≡ record_refusal s h u →
-    t ≡ pick (is_none f) (recorded_by s h u) s →
-    RecordSays s h u (record { refusal = f; shift = t })
-record_says s h u f t e d =
-    let p = d ∙ ap (λ (g : Refusal). pick (is_none g) (recorded_by s h u) s) e in
-    record {
-      refusal = e;
-      shift = p;
-      stays = λ i. ap is_shift p ∙ stays i (is_none (record_refusal s h u)) refl;
-    }
+-- the promise of any answer that has the refusal g and the shift due, where the next one is a shift
+pub hands_over :
+    (s next : Shift) (g f : Refusal) (s' : Shift) →
+    (is_shift s ≡ true → is_none g ≡ true → is_shift next ≡ true) →
+    f ≡ g → s' ≡ pick (is_none f) next s →
+    HandingSays s next g (record { refusal = f; shift = s' })
+hands_over s next g f s' n e d =
+    let p = d ∙ ap (λ (h : Refusal). pick (is_none h) next s) e in
+    record { refusal = e; shift = p; stays = λ i. ap is_shift p ∙ stays i (is_none g) refl }
   where
-    stays :
-        is_shift s ≡ true → (b : Bool) → is_none (record_refusal s h u) ≡ b → is_shift (pick b (recorded_by s h u) s) ≡ true
-    stays i true n = is_sound (recorded_by s h u) (recorded_sound s h u (passed s h u n))
-    stays i false n = i
+    stays : is_shift s ≡ true → (b : Bool) → is_none g ≡ b → is_shift (pick b next s) ≡ true
+    stays i true e = n i e
+    stays i false e = i
 
--- the shift that the code makes of the frame rule's two results
-pub recorded_as :
-    (s : Shift) (h u x l : ℕ) →
-    x ≡ (frame_end s.terms.capacity s.now.charge h u).charge →
-    l ≡ (frame_end s.terms.capacity s.now.charge h u).lost →
-    record {
-      terms = s.terms;
-      now =
-          record {
-            recorded = s.now.recorded + 1;
-            charge = x;
-            totals =
-                record {
-                  harvested = s.now.totals.harvested + h;
-                  used = s.now.totals.used + u;
-                  lost = s.now.totals.lost + l;
-                };
-          };
-    }
-    ≡ recorded_by s h u
-recorded_as s h u x l p q = cc (add-one s.now.recorded)
+-- recording's
+pub record_says :
+    (s : Shift) (t : Typed) (f : Refusal) (s' : Shift) → f ≡ record_refusal s t →
+    s' ≡ pick (is_none f) (recorded_by s t) s →
+    RecordSays s t (record { refusal = f; shift = s' })
+record_says s t f s' =
+    hands_over s (recorded_by s t) (record_refusal s t) f s'
+    (λ i n. is_sound (recorded_by s t) (recorded_sound s t (passed s t n)))

@@ -8,6 +8,7 @@ use Rattle.model.specs.Answer.{told}
 use Rattle.model.specs.Charge.{feasible}
 use Rattle.model.specs.Reward.{IsPlan}
 use Rattle.model.specs.Plan.{plan_of}
+use Rattle.shift.specs.declared.Typed.{Typed}
 use Rattle.shift.specs.declared.Shift.{Shift}
 use Rattle.shift.specs.Shift.{started, no_shift, is_shift, record_refusal, recorded_by}
 
@@ -41,10 +42,14 @@ pub record StartSays (q : Request) (l m : ℕ) (a : ShiftAnswer) : Type 0 where
   -- with refusal 9 or 11 no assignment is feasible
   pub unreachable : is_unreachable (start_refusal q l m) ≡ true → (bs : List ℕ) → feasible q bs ≡ false
 
--- recording harvest h and use u
-pub record RecordSays (s : Shift) (h u : ℕ) (a : ShiftAnswer) : Type 0 where
-  pub refusal : a.refusal ≡ record_refusal s h u
-  -- the shift after the frame; after a refusal the same shift
-  pub shift : a.shift ≡ pick (is_none (record_refusal s h u)) (recorded_by s h u) s
+-- a call of shift s that f may refuse, and that leaves the shift next if f is none
+pub record HandingSays (s next : Shift) (f : Refusal) (a : ShiftAnswer) : Type 0 where
+  pub refusal : a.refusal ≡ f
+  -- the next shift; after a refusal the same shift
+  pub shift : a.shift ≡ pick (is_none f) next s
   -- a shift stays one
   pub stays : is_shift s ≡ true → is_shift a.shift ≡ true
+
+-- recording what is typed for the next frame: the shift after it
+abbrev pub RecordSays : Shift → Typed → ShiftAnswer → Type 0
+RecordSays s t a = HandingSays s (recorded_by s t) (record_refusal s t) a

@@ -5,7 +5,7 @@
 ghost use Rattle.std.specs.Prelude.{◌≡◌, true};
 ghost use Rattle.model.specs.Answer.{asked, leasts_lent, mosts_lent};
 ghost use Rattle.model.specs.Refusals.{is_none};
-ghost use Rattle.shift.specs.Shift.{fresh_shift, record_refusal, recorded_by};
+ghost use Rattle.shift.specs.Shift.{drawn, fresh_shift, record_refusal, recorded_by};
 ghost use Rattle.shift.specs.Says.{StartSays, RecordSays, started_as, recorded_as};
 
 use model::frame::frame_end;
@@ -23,6 +23,13 @@ pub struct Terms {
     pub capacity: u32,
     pub start: u32,
     pub end: u32,
+}
+
+// What is typed for a frame: its harvest and its use.
+#[derive(Clone, Copy)]
+pub struct Typed {
+    pub harvest: u32,
+    pub used: u32,
 }
 
 // Sums over the recorded frames.
@@ -66,6 +73,15 @@ pub fn start(request: Request) -> Result<Shift, Refusal>
     }))
 }
 
+impl Typed {
+    // What the frame takes out of the store: its use.
+    fn drawn(self) -> u64
+        ensures { result ≡ drawn self }
+    {
+        self.used as u64
+    }
+}
+
 impl Shift {
     // A shift with nothing recorded yet.
     fn fresh(terms: Terms) -> Shift
@@ -80,20 +96,25 @@ impl Shift {
         }
     }
 
-    // The shift as it stands after a frame with this harvest and use.
-    fn recorded_by(self, harvest: u32, used: u32) -> Shift
-        requires { is_none (record_refusal self harvest used) ≡ true }
-        ensures { result ≡ recorded_by self harvest used }
+    // The shift as it stands after a frame of which this is typed.
+    fn recorded_by(self, typed: Typed) -> Shift
+        requires { is_none (record_refusal self typed) ≡ true }
+        ensures { result ≡ recorded_by self typed }
     {
-        let end = frame_end(self.terms.capacity, self.now.charge as i64, harvest, used);
+        let end = frame_end(
+            self.terms.capacity,
+            self.now.charge as i64,
+            typed.harvest,
+            typed.drawn(),
+        );
         let totals = self.now.totals;
         Shift {
             now: Present {
                 recorded: self.now.recorded + 1,
                 charge: end.charge as u32,
                 totals: Totals {
-                    harvested: totals.harvested + harvest as u64,
-                    used: totals.used + used as u64,
+                    harvested: totals.harvested + typed.harvest as u64,
+                    used: totals.used + typed.used as u64,
                     lost: totals.lost + end.lost,
                 },
             },
@@ -103,10 +124,10 @@ impl Shift {
 
     // Records the next frame's harvest and use: hands over the shift as it stands after it. Where that is refused, the
     // shift stays as it was.
-    pub fn record(self, harvest: u32, used: u32) -> Result<Shift, Refusal>
-        ensures { RecordSays self harvest used (recorded_as self result) }
+    pub fn record(self, typed: Typed) -> Result<Shift, Refusal>
+        ensures { RecordSays self typed (recorded_as self result) }
     {
-        self.check_record(harvest, used)?;
-        Ok(self.recorded_by(harvest, used))
+        self.check_record(typed)?;
+        Ok(self.recorded_by(typed))
     }
 }

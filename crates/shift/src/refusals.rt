@@ -1,10 +1,9 @@
-// Refusals 22, 20 and 21, and recording's, as its list in the definitions has them. Harvest and use stay two numbers:
-// each is looked at by a rule of its own, and as C lends them; a struct would be taken apart in every one.
+// Refusals 22, 20 and 21, and recording's, as its list in the definitions has them.
 ghost use Rattle.std.specs.Prelude.{◌≡◌};
 ghost use Rattle.model.specs.Answer.{refused};
 ghost use Rattle.shift.specs.Shift.{all_recorded, not_shift, record_refusal, use_too_great};
 
-use crate::Shift;
+use crate::{Shift, Typed};
 use model::Refusal;
 use model::frame::at_hand;
 use request::{check_harvest, check_that};
@@ -25,24 +24,24 @@ impl Shift {
     }
 
     // Refusal 21.
-    fn check_use(self, harvest: u32, used: u32) -> Result<(), Refusal>
-        ensures { refused result ≡ use_too_great self.terms self.now harvest used }
+    fn check_use(self, typed: Typed) -> Result<(), Refusal>
+        ensures { refused result ≡ use_too_great self.terms self.now typed }
     {
-        let have = at_hand(self.terms.capacity, self.now.charge, harvest);
-        let taken = used as u64;
+        let have = at_hand(self.terms.capacity, self.now.charge, typed.harvest);
+        let drawn = typed.drawn();
         check_that(
-            taken <= have,
-            Refusal::UseTooGreat(taken.saturating_sub(have)),
+            drawn <= have,
+            Refusal::UseTooGreat(drawn.saturating_sub(have)),
         )
     }
 
     // Recording. The harvest is looked at as a list of one.
-    pub(crate) fn check_record(self, harvest: u32, used: u32) -> Result<(), Refusal>
-        ensures { refused result ≡ record_refusal self harvest used }
+    pub(crate) fn check_record(self, typed: Typed) -> Result<(), Refusal>
+        ensures { refused result ≡ record_refusal self typed }
     {
         self.check_shift()?;
         self.check_left()?;
-        check_harvest(&[harvest], self.now.recorded as u64 + 1)?;
-        self.check_use(harvest, used)
+        check_harvest(&[typed.harvest], self.now.recorded as u64 + 1)?;
+        self.check_use(typed)
     }
 }

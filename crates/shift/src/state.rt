@@ -1,6 +1,6 @@
 // Whether a record is a shift's.
-ghost use Rattle.std.specs.Prelude.{◌≡◌, ◌+◌, eqb};
-ghost use Rattle.shift.specs.Shift.{are_terms, is_present, is_shift};
+ghost use Rattle.std.specs.Prelude.{◌≡◌};
+ghost use Rattle.shift.specs.Shift.{are_terms, balances, is_present, is_shift};
 
 use crate::{Present, Shift, Terms, Totals};
 use model::limits::{MAX_CAPACITY, MAX_FRAMES, MAX_HARVEST};
@@ -18,15 +18,19 @@ impl Terms {
     }
 }
 
-// Whether start and harvested equal charge, used and lost. In 128 bits no sum wraps.
-fn balances(start: u32, charge: u32, totals: Totals) -> bool
-    ensures { result ≡ eqb (start + totals.harvested) (charge + totals.used + totals.lost) }
-{
-    start as u128 + totals.harvested as u128
-        == charge as u128 + totals.used as u128 + totals.lost as u128
-}
-
 impl Present {
+    // Whether start and harvested equal charge, used and lost. In 128 bits no sum wraps.
+    fn balances(self, terms: Terms) -> bool
+        ensures { result ≡ balances terms self }
+    {
+        let Totals {
+            harvested,
+            used,
+            lost,
+        } = self.totals;
+        terms.start as u128 + harvested as u128 == self.charge as u128 + used as u128 + lost as u128
+    }
+
     // Whether a shift of these terms can stand so.
     fn is_present(self, terms: Terms) -> bool
         ensures { result ≡ is_present terms self }
@@ -34,7 +38,7 @@ impl Present {
         self.recorded <= terms.frames
             && self.charge <= terms.capacity
             && self.totals.harvested <= MAX_HARVEST as u64 * self.recorded as u64
-            && balances(terms.start, self.charge, self.totals)
+            && self.balances(terms)
     }
 }
 

@@ -3,5 +3,6 @@ pub mod Numbers
 pub mod Refusals
 pub mod Keeps
 pub mod Steps
+pub mod Calls
 pub mod Run
 pub mod Impostors

@@ -1,8 +1,7 @@
--- The numbers of refusals: which cannot come from a list, and whose test holds where one comes; and that the code can
--- tell each of a list.
+-- The numbers of refusals: whose test holds where one comes from a list; and that the code can tell each of a list.
 use mathlib.Core.Path.{◌≡◌, refl, sym, ◌∙◌}
 use mathlib.Core.Bool.{Bool, true, false, not, false≢true}
-use mathlib.Core.List.{List, [], ◌∷◌, ◌++◌}
+use mathlib.Core.List.{List, [], ◌∷◌, ◌++◌, map}
 use Prim.Native.Nat.{ℕ, suc}
 use lib.Dec.{ltb, eqb}
 use Rattle.model.specs.declared.refusal.Refusal.{Refusal as Given}
@@ -14,57 +13,14 @@ use Rattle.model.specs.Limits.{max_harvest}
 use Rattle.model.specs.Request.{Bounds}
 use Rattle.model.specs.Refusals.{refusal, none, is_none, first_of, wrong_length, harvest_over_limit, bad_bounds}
 use Rattle.model.specs.Refusals.{bounds_refused}
+use Rattle.model.proofs.Numbers.{AllClear, first_clear}
 
--- none of a list of refusals has number n
+-- whether a number is n, and that none of a list of refusals has it
+abbrev pub is : ℕ → ℕ → Bool
+is n k = eqb k n
+
 abbrev pub Without : ℕ → List Refusal → Type 0
-Without n [] = Unit {0}
-Without n (f ∷ fs) = (eqb f.number n ≡ false) × Without n fs
-
--- then the first hasn't either
-pub first_without : (n : ℕ) → eqb 0 n ≡ false → (fs : List Refusal) → Without n fs → eqb (first_of fs).number n ≡ false
-first_without n z [] w = z
-first_without n z (f ∷ fs) w = go (is_none f) (first_without n z fs w.1) w.0
-  where
-    go :
-        (t : Bool) → eqb (first_of fs).number n ≡ false → eqb f.number n ≡ false →
-        eqb (pick t (first_of fs) f).number n ≡ false
-    go true e d = e
-    go false e d = d
-
--- a refusal by a test
-pub test_without :
-    (n : ℕ) (t : Bool) (g : Refusal) → eqb 0 n ≡ false → eqb g.number n ≡ false →
-    eqb (pick t g none).number n ≡ false
-test_without n true g z e = e
-test_without n false g z e = z
-
--- 6 has its own number
-pub harvest_without :
-    (n k : ℕ) (hs : List ℕ) → eqb 0 n ≡ false → eqb 6 n ≡ false → eqb (harvest_over_limit k hs).number n ≡ false
-harvest_without n k [] z e = z
-harvest_without n k (h ∷ hs) z e = go (ltb max_harvest h) (harvest_without n (suc k) hs z e)
-  where
-    go :
-        (t : Bool) → eqb (harvest_over_limit (suc k) hs).number n ≡ false →
-        eqb (elim t as (λ _. Refusal) [ true ↦ refusal 6 k | false ↦ harvest_over_limit (suc k) hs ]).number n ≡ false
-    go true d = e
-    go false d = d
-
--- so has 7
-pub length_without : (n k l : ℕ) → eqb 0 n ≡ false → eqb 7 n ≡ false → eqb (wrong_length k l).number n ≡ false
-length_without n k l z e = test_without n (not (eqb l k)) (refusal 7 0) z e
-
--- and 10
-pub bounds_without :
-    (n k : ℕ) (ws : List Bounds) → eqb 0 n ≡ false → eqb 10 n ≡ false → eqb (bounds_refused k ws).number n ≡ false
-bounds_without n k [] z e = z
-bounds_without n k (w ∷ ws) z e = go (bad_bounds w) (bounds_without n (suc k) ws z e)
-  where
-    go :
-        (t : Bool) → eqb (bounds_refused (suc k) ws).number n ≡ false →
-        eqb (elim t as (λ _. Refusal) [ true ↦ refusal 10 k | false ↦ bounds_refused (suc k) ws ]).number n ≡ false
-    go true d = e
-    go false d = d
+Without n fs = AllClear (is n) fs
 
 -- where only one refusal of a list can have number n, it has it
 pub only_at :
@@ -73,7 +29,7 @@ pub only_at :
 only_at n [] g gs z v w e = go (is_none g) e
   where
     go : (t : Bool) → eqb (pick t (first_of gs) g).number n ≡ true → eqb g.number n ≡ true
-    go true q = absurd (false≢true (sym (first_without n z gs w) ∙ q))
+    go true q = absurd (false≢true (sym (first_clear (is n) z gs w) ∙ q))
     go false q = q
 only_at n (f ∷ fs) g gs z v w e = go (is_none f) (only_at n fs g gs z v.1 w) e
   where
@@ -96,7 +52,12 @@ abbrev pub AllTellable : List Refusal → Type 0
 AllTellable [] = Unit {0}
 AllTellable (f ∷ fs) = Tellable f × AllTellable fs
 
--- then so it can the first
+-- of two such lists joined it can tell each
+pub joined_told : (fs gs : List Refusal) → AllTellable fs → AllTellable gs → AllTellable (fs ++ gs)
+joined_told [] gs v w = w
+joined_told (f ∷ fs) gs v w = (v.0, joined_told fs gs v.1 w)
+
+-- and of each such list the first
 pub first_told : (fs : List Refusal) → AllTellable fs → Tellable (first_of fs)
 first_told [] w = λ e. absurd (false≢true (sym e))
 first_told (f ∷ fs) w = go (is_none f) refl (first_told fs w.1)
@@ -111,8 +72,9 @@ test_told true e n = (e, refl)
 test_told false e n = absurd (false≢true (sym n))
 
 -- 7, 6 and 10
-pub length_told : (k n : ℕ) → Tellable (wrong_length k n)
-length_told k n = test_told (not (eqb n k)) given.WrongLength
+pub lengths_told : (k : ℕ) (ns : List ℕ) → AllTellable (map (wrong_length k) ns)
+lengths_told k [] = tt
+lengths_told k (n ∷ ns) = (test_told (not (eqb n k)) given.WrongLength, lengths_told k ns)
 
 pub harvest_told : (k : ℕ) (hs : List ℕ) → Tellable (harvest_over_limit k hs)
 harvest_told k [] = λ n. absurd (false≢true (sym n))

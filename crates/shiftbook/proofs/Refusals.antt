@@ -8,61 +8,55 @@ use native.Mathlib.Omega.{arith}
 use lib.Dec.{eqb, ltb}
 use lib.ListN.{length, get_or, drop, length-drop}
 use lib.Seq.{get_or-drop}
-use borrow.Author.Tests.{eqb-true, lt-ltb, le-ltb}
+use borrow.Author.Tests.{lt-ltb, le-ltb}
 use Rattle.std.specs.List.{range_with_len}
 use Rattle.model.specs.Choice.{pick}
 use Rattle.model.specs.Limits.{max_harvest, max_bound, no_upper_end}
 use Rattle.model.specs.Request.{bounds, bounds_of, frame_count}
-use Rattle.model.specs.Refusals.{Refusal, refusal, none, is_none, first_of, wrong_length, harvest_over_limit, bad_bounds}
-use Rattle.model.specs.Refusals.{bounds_refused}
+use Rattle.model.specs.Refusals.{Refusal, refusal, none, is_none, first_of, wrong_length, harvest_over_limit}
+use Rattle.model.specs.Refusals.{bad_bounds, bounds_refused}
 use Rattle.model.proofs.Choice.{pick_by}
+use Rattle.model.proofs.First.{behind}
+use Rattle.request.proofs.Within.{length_within}
+use Rattle.shift.specs.declared.Typed.{Typed}
 use Rattle.shift.specs.Shift as shift
 use Rattle.rest.specs.Rest as rest
-use Rattle.rest.specs.Rest.{Lists}
-use Rattle.shiftbook.specs.Logbook.{Logbook, terms, all_noted, note_over_limit, note_excess, note_refusals, entry}
-use Rattle.shiftbook.specs.Logbook.{open_over_limit, unfit, open_unfit, planning_refusal}
+use Rattle.rest.specs.Rest.{Outlook}
+use Rattle.shiftbook.specs.Logbook.{Logbook, terms, all_noted, over_limit, note_excess, note_refusals, entry}
+use Rattle.shiftbook.specs.Logbook.{not_of_k, length_refusals, open_over_limit, unfit, open_unfit, planning_refusal}
 
--- 6 of a recording, which the shift words with a list of one harvest
-over_limit_agrees :
-    (l : Logbook) (h : ℕ) → note_over_limit l h ≡ harvest_over_limit (suc l.page.now.recorded) (h ∷ [])
-over_limit_agrees l h = go (ltb max_harvest h) refl
+-- 6, which the shift words with a list of one harvest
+over_limit_agrees : (i h : ℕ) → over_limit i h ≡ harvest_over_limit i (h ∷ [])
+over_limit_agrees i h = go (ltb max_harvest h)
   where
-    go :
-        (t : Bool) → ltb max_harvest h ≡ t →
-        note_over_limit l h ≡ elim t as (λ _. Refusal) [ true ↦ refusal 6 (suc l.page.now.recorded) | false ↦ none ]
-    go true e = rw e (ap (refusal 6) (omega arith))
-    go false e = rw e refl
+    go : (b : Bool) → pick b (refusal 6 i) none ≡ elim b as (λ _. Refusal) [ true ↦ refusal 6 i | false ↦ none ]
+    go true = refl
+    go false = refl
 
 -- the lists of a recording are the same
 pub note_agrees :
-    (l : Logbook) (h u : ℕ) → note_refusals l h u ≡ shift.recording_refusals (terms l) l.page.now h u
-note_agrees l h u =
-    ap (λ (f : Refusal). all_noted l ∷ f ∷ note_excess l h u ∷ []) (over_limit_agrees l h)
+    (l : Logbook) (t : Typed) → note_refusals l t ≡ shift.recording_refusals (terms l) l.page.now t
+note_agrees l t =
+    let n = l.page.now.recorded in
+    ap (λ (f : Refusal). all_noted l ∷ f ∷ note_excess l t ∷ [])
+    (over_limit_agrees (n + 1) t.harvest ∙ ap (λ (i : ℕ). harvest_over_limit i (t.harvest ∷ [])) (add-one n))
 
--- all numbers of a list are k
-abbrev AllAre : ℕ → List ℕ → Type 0
-AllAre k [] = Unit {0}
-AllAre k (n ∷ ns) = (n ≡ k) × AllAre k ns
-
--- behind a 7 for each of these lengths, the first refusals are the same if they are where all lengths are k
-past_lengths :
-    (k : ℕ) (ns : List ℕ) (fs gs : List Refusal) → (AllAre k ns → first_of fs ≡ first_of gs) →
-    first_of (map (λ (n : ℕ). pick (eqb n k) none (refusal 7 0)) ns ++ fs)
-    ≡ first_of (map (wrong_length k) ns ++ gs)
-past_lengths k [] fs gs h = h tt
-past_lengths k (n ∷ ns) fs gs h = go (eqb n k) refl (λ e. past_lengths k ns fs gs (λ w. h (e, w)))
+-- a 7 in both wordings
+length_agrees : (k n : ℕ) → pick (eqb n k) none (refusal 7 0) ≡ wrong_length k n
+length_agrees k n = go (eqb n k)
   where
-    fs' : List Refusal
-    fs' = map (λ (n : ℕ). pick (eqb n k) none (refusal 7 0)) ns ++ fs
+    go : (t : Bool) → pick t none (refusal 7 0) ≡ pick (not t) (refusal 7 0) none
+    go true = refl
+    go false = refl
 
-    gs' : List Refusal
-    gs' = map (wrong_length k) ns ++ gs
-
-    go :
-        (t : Bool) → eqb n k ≡ t → (n ≡ k → first_of fs' ≡ first_of gs') →
-        first_of (pick t none (refusal 7 0) ∷ fs') ≡ first_of (pick (not t) (refusal 7 0) none ∷ gs')
-    go true e ih = ih (eqb-true n k e)
-    go false e ih = refl
+-- the lists of 7s of a planning are the same
+pub lengths_agree :
+    (l : Logbook) (p : Outlook) (ns : List ℕ) → length_refusals l p ns ≡ rest.length_refusals (frame_count l.of) p ns
+lengths_agree l p ns = all_agree (rest.lengths_of p ++ ns)
+  where
+    all_agree : (ms : List ℕ) → map (not_of_k l) ms ≡ map (wrong_length (frame_count l.of)) ms
+    all_agree [] = refl
+    all_agree (m ∷ ms) = cc (length_agrees (frame_count l.of) m, all_agree ms)
 
 -- the first refusal r among k frames from i on, that of a frame behind frame n of which test t holds
 module _ (n r : ℕ) (t : ℕ → Bool) where
@@ -145,7 +139,7 @@ unfit_along n t i (x ∷ ls) (y ∷ ms) d l e =
     ∙ ap (λ (k : ℕ). bounds_refused k (bounds_of ls ms)) (add-one i))
 
 -- 6 and 10 of a planning
-module _ (l : Logbook) (p : Lists) where
+module _ (l : Logbook) (p : Outlook) where
   abbrev n : ℕ
   n = l.page.now.recorded
 
@@ -169,26 +163,31 @@ module _ (l : Logbook) (p : Lists) where
       (λ j. ap (ltb max_harvest) (entry_open j p.harvest))
 
   open_unfit_agrees :
-      length p.least ≡ frame_count l.of → length p.most ≡ frame_count l.of →
-      open_unfit l p ≡ rest.rest_bounds l.page.now p.least p.most
+      length p.wanted.least ≡ frame_count l.of → length p.wanted.most ≡ frame_count l.of →
+      open_unfit l p ≡ rest.rest_bounds l.page.now p.wanted
   open_unfit_agrees e d =
-      let t = λ (i : ℕ). unfit (entry p.least i) (entry p.most i) in
+      let w = p.wanted in
+      let t = λ (i : ℕ). unfit (entry w.least i) (entry w.most i) in
       passed_over n 10 t n 1 (frame_count l.of) (omega arith)
-      ∙ ap (first_from n 10 t (suc n)) (open_length p.least e)
-      ∙ unfit_along n t (suc n) (drop n p.least) (drop n p.most)
-      (sym (open_length p.least e) ∙ open_length p.most d) (omega arith)
-      (λ j. cc (entry_open j p.least, entry_open j p.most))
+      ∙ ap (first_from n 10 t (suc n)) (open_length w.least e)
+      ∙ unfit_along n t (suc n) (drop n w.least) (drop n w.most)
+      (sym (open_length w.least e) ∙ open_length w.most d) (omega arith)
+      (λ j. cc (entry_open j w.least, entry_open j w.most))
 
 -- of the lists of a planning, the first refusals are the same
 pub planning_agrees :
-    (l : Logbook) (p : Lists) (b : ℕ) →
-    planning_refusal l p b ≡ first_of (rest.planning_refusals (terms l) l.page.now p b)
-planning_agrees l p b =
+    (l : Logbook) (p : Outlook) (ns : List ℕ) →
+    planning_refusal l p ns ≡ first_of (rest.planning_refusals (terms l) l.page.now p ns)
+planning_agrees l p ns =
+    let k = frame_count l.of in
+    let fs = all_noted l ∷ open_over_limit l p ∷ open_unfit l p ∷ [] in
     let h = rest.rest_over_limit l.page.now p.harvest in
-    let w = rest.rest_bounds l.page.now p.least p.most in
-    past_lengths (frame_count l.of) (length p.harvest ∷ length p.least ∷ length p.most ∷ b ∷ [])
-    (all_noted l ∷ open_over_limit l p ∷ open_unfit l p ∷ []) (all_noted l ∷ h ∷ w ∷ [])
+    let w = rest.rest_bounds l.page.now p.wanted in
+    ap (λ (gs : List Refusal). first_of (gs ++ fs)) (lengths_agree l p ns)
+    ∙ behind (rest.length_refusals k p ns) fs (all_noted l ∷ h ∷ w ∷ [])
     (λ e.
-    let s : all_noted l ∷ open_over_limit l p ∷ open_unfit l p ∷ [] ≡ all_noted l ∷ h ∷ w ∷ [] =
-    cc (open_over_limit_agrees l p e.0, open_unfit_agrees l p e.1.0 e.1.1.0) in
+    let x = length_within k (length p.harvest) e.0 in
+    let y = length_within k (length p.wanted.least) e.1.0 in
+    let z = length_within k (length p.wanted.most) e.1.1.0 in
+    let s : fs ≡ all_noted l ∷ h ∷ w ∷ [] = cc (open_over_limit_agrees l p x, open_unfit_agrees l p y z) in
     ap first_of s)

@@ -10,15 +10,15 @@ use Rattle.model.specs.Request.{Request}
 use Rattle.model.specs.Refusals.{is_none, start_refusal}
 use Rattle.model.proofs.Choice.{pick_by}
 use Rattle.shift.specs.declared.Totals.{Totals}
-use Rattle.shift.specs.declared.Shift.{Shift}
 use Rattle.shift.specs.Shift.{started, no_shift, is_shift}
 use Rattle.shift.proofs.Record.{sound_of}
-use Rattle.shiftbook.specs.Logbook.{Logbook, opened, State, shift_of, state_of}
+use Rattle.shiftbook.specs.Logbook.{Logbook, opened, State, with_shift, shift_of, state_of}
 use Rattle.shiftbook.specs.Calls.{Call, kind}
+use Rattle.shiftbook.specs.Logbook.{sums}
 use Rattle.shiftbook.specs.Run.{Turn, calls, left, Run, state_after, all_told, log_after, all_due, AllMean, comes_up}
-use Rattle.shiftbook.specs.Run.{sums, Moment, Demand3, begun, ShiftDemand, EveryListRuns}
-use Rattle.shiftbook.proofs.Keeps.{Sound}
-use Rattle.shiftbook.proofs.Steps.{keeps}
+use Rattle.shiftbook.specs.Run.{Moment, Demand3, begun, ShiftDemand, EveryListRuns}
+use Rattle.shiftbook.proofs.Keeps.{Sound, opened_sound}
+use Rattle.shiftbook.proofs.Calls.{keeps}
 
 -- a run from the logbook's own state, and what it comes to
 pub record Follows (q : Request) (l : Logbook) (ts : List Turn) : Type 0 where
@@ -49,7 +49,8 @@ all_without l (c ∷ cs) =
 
 -- the moment after a run: the balance is the one that 22 asks for, with the sums for the totals
 moment :
-    (q : Request) (ts : List Turn) → Follows q (opened q) ts → Moment q (calls ts) (state_after (state_of (opened q)) ts)
+    (q : Request) (ts : List Turn) → Follows q (opened q) ts →
+    Moment q (calls ts) (state_after (state_of (opened q)) ts)
 moment q ts f =
     let l = log_after (opened q) (calls ts) in
     let t : l.page.now.totals ≡ sums l.page.history = f.sound.totals_are in
@@ -82,7 +83,7 @@ from_start :
     (q : Request) → is_shift (started q) ≡ true → (ts : List Turn) → Run (state_of (opened q)) ts →
     Demand3 q (state_of (opened q)) ts
 from_start q i ts r =
-    let s : Sound q (opened q) = record { of_is = refl; is_shift = i; totals_are = refl } in
+    let s = opened_sound q i in
     let f = follows q (opened q) s ts r in
     record {
       tells_due = f.tells_due;
@@ -101,8 +102,8 @@ from_start q i ts r =
 pub shift_demand : ShiftDemand
 shift_demand q l m a p n ts r =
     let ok : is_none (start_refusal q l m) ≡ true = ap is_none (sym p.refusal) ∙ n in
-    let e : begun a ≡ state_of (opened q) =
-    ap (λ (s : Shift). record { shift = s }) (p.shift
+    let e : begun q a ≡ state_of (opened q) =
+    ap (with_shift (state_of (opened q))) (p.shift
     ∙ pick_by (is_none (start_refusal q l m)) true (started q) no_shift ok) in
     subst
     (λ (x : State). Demand3 q x ts)

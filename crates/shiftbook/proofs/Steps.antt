@@ -1,181 +1,142 @@
 -- Each kind of call keeps what is asked of it. The record that a call gets is the logbook's and passes 22, so the
--- refusal that its promise gives is the logbook's, which is worded apart (Refusals.antt), and so is everything else that
--- the promise says.
+-- refusal that its promise gives is the logbook's, which is worded apart (Refusals.antt), and so is everything else
+-- that the promise says.
 use mathlib.Core.Path.{◌≡◌, refl, sym, ap, subst, ◌∙◌}
 use mathlib.Core.Bool.{Bool, true, false, not}
 use mathlib.Core.List.{List, [], ◌∷◌, ◌++◌}
 use Prim.Native.Nat.{ℕ, suc, ◌-◌}
 use lib.Dec.{eqb, ltb}
 use lib.ListN.{length, take, drop}
-use lib.IntN.{pos}
 use Rattle.std.specs.Prelude.{Ok, Err}
 use Rattle.model.specs.Refusals.{Refusal}
 use Rattle.model.specs.Choice.{pick}
 use Rattle.model.specs.Request.{Request, bounds_of}
-use Rattle.model.specs.Trace.{trace, last_from}
-use Rattle.model.specs.Charge.{at_hand, frame_end}
+use Rattle.model.specs.Charge.{at_hand}
 use Rattle.model.specs.Refusals.{outcome, refusal, is_none, first_of, reachable}
 use Rattle.shift.specs.declared.Totals.{Totals}
 use Rattle.shift.specs.declared.Shift.{Shift}
+use Rattle.shift.specs.declared.Terms.{Terms}
+use Rattle.shift.specs.declared.Typed.{Typed}
+use Rattle.shift.specs.declared.Present.{Present}
 use Rattle.model.specs.declared.refusal.Refusal.TheVariants as given
 use Rattle.rest.specs.declared.Rest.TheVariants as rest
 use Rattle.shift.specs.Shift.{is_shift, plus, recording_refusals, record_refusal, recorded_by}
-use Rattle.rest.specs.Rest.{Lists, zeros, missing_to, ending_of, rest_budgets, rest_refusals, rest_refusal, rest_request}
-use Rattle.rest.specs.Rest.{planning_refusals, written_from, RestMeans}
+use Rattle.rest.specs.Rest.{Outlook, missing_with_zeros, ending_of, rest_budgets, rest_request, RestMeans}
+use Rattle.rest.specs.Rest.{lengths_of, length_refusals, frame_refusals, planning_refusals, rest_refusals}
+use Rattle.rest.specs.Rest.{rest_refusal, written_from}
 use Rattle.shift.specs.Says.{ShiftAnswer, RecordSays}
 use Rattle.rest.specs.Says.{RestSays, rest_said}
 use Rattle.shift.proofs.Record.{past_22, record_says}
 use Rattle.rest.proofs.Planned.{rest_refused, rest_done}
 use Rattle.rest.proofs.Ending.{ending_short, ending_full}
 use Rattle.shiftbook.specs.Logbook.{Logbook, terms, note_refusal, noted, planning_refusal, open_request, shift_of}
-use Rattle.shiftbook.specs.Logbook.{State}
-use Rattle.shiftbook.specs.Kind.{shift, ending, tells}
-use Rattle.shiftbook.specs.Calls.{recording, Planning, due_budgets, planning, Call, records, plans, kind}
+use Rattle.shiftbook.specs.Logbook.{State, line_of}
+use Rattle.shiftbook.specs.Value.{shift, ending}
+use Rattle.shiftbook.specs.Kind.{tells, is_number}
+use Rattle.shiftbook.specs.Calls.{recording, Planning, due_budgets, due_planning, PlanningMeans, planning}
+use Rattle.model.proofs.Numbers.{both_clear, bounds_clear, harvest_clear, lengths_clear, test_clear}
 use Rattle.shiftbook.proofs.Numbers as number
 use Rattle.shiftbook.proofs.Refusals.{note_agrees, planning_agrees}
-use Rattle.shiftbook.proofs.Keeps.{Sound, Step, Keeps, without, handed_says, shift_pick, sums_more}
+use Rattle.shiftbook.proofs.Keeps.{Sound, Step, Keeps, without, handing_step, sound_at, sums_more}
 
 -- recording
 recording_step :
-    (h u : ℕ) (q : Request) (l : Logbook) → Sound q l → (a : ShiftAnswer) → RecordSays (shift_of l) h u a →
-    Step q (recording h u) l a
-recording_step h u q l i a p =
+    (t : Typed) (q : Request) (l : Logbook) → Sound q l → (a : ShiftAnswer) → RecordSays (shift_of l) t a →
+    Step q (recording t) l a
+recording_step t q l i a p =
     let s = shift_of l in
-    let f = note_refusal l h u in
-    let e : record_refusal s h u ≡ f = past_22 s (recording_refusals (terms l) l.page.now h u) i.is_shift
-    ∙ sym (ap first_of (note_agrees l h u)) in
-    let d : a.shift ≡ pick (is_none f) (recorded_by s h u) s =
-    p.shift ∙ ap (λ (g : Refusal). pick (is_none g) (recorded_by s h u) s) e in
-    let z : a.shift ≡ shift_of (pick (is_none f) (noted l h u) l) = d ∙ shift_pick (is_none f) (noted l h u) l in
-    record {
-      tells_due = ap (λ o. tells shift o []) (handed_says a f (recorded_by s h u) s (p.refusal ∙ e) d);
-      leaves_it = ap (λ (t : Shift). record { shift = t }) z;
-      sound = sound (is_none f) (ap is_shift (sym z) ∙ p.stays i.is_shift);
-      means = tt;
-    }
-  where
-    entry : Totals
-    entry =
-        let e = frame_end l.of.figures.capacity l.page.now.charge h u in
-        record { harvested = h; used = u; lost = e.lost }
+    let e : record_refusal s t ≡ note_refusal l t =
+    past_22 s (recording_refusals (terms l) l.page.now t) i.is_shift
+    ∙ sym (ap first_of (note_agrees l t)) in
+    handing_step (λ s a. RecordSays s t a) (λ l. note_refusal l t) (λ l. noted l t) q l (recorded_by s t)
+    (record_refusal s t) a i p e (λ _. refl) refl
+    (λ n.
+    sound_at q l (noted l t).page i n
+    (ap (λ (x : Totals). plus x (line_of l t)) i.totals_are ∙ sums_more l.page.history (line_of l t)))
 
-    sound : (t : Bool) → is_shift (shift_of (pick t (noted l h u) l)) ≡ true → Sound q (pick t (noted l h u) l)
-    sound true n =
-        record {
-          of_is = i.of_is;
-          is_shift = n;
-          totals_are = ap (λ (t : Totals). plus t entry) i.totals_are ∙ sums_more l.page.history entry;
-        }
-    sound false n = i
-
-recording_without : (h u : ℕ) (l : Logbook) → eqb (note_refusal l h u).number 22 ≡ false
-recording_without h u l =
-    let k = terms l in
-    let n = l.page.now in
-    let a = at_hand k.capacity n.charge h in
-    ap (λ (fs : List Refusal). eqb (first_of fs).number 22) (note_agrees l h u)
-    ∙ number.first_without 22 refl (recording_refusals k n h u) (
-      number.test_without 22 (eqb n.recorded k.frames) (refusal 20 0) refl refl,
+pub recording_without : (k : Terms) (n : Present) (t : Typed) → number.Without 22 (recording_refusals k n t)
+recording_without k n t =
+    let a = at_hand k.capacity n.charge t.harvest in (
+      test_clear (number.is 22) refl (eqb n.recorded k.frames) (refusal 20 0) refl,
       (
-        number.harvest_without 22 (suc n.recorded) (h ∷ []) refl refl,
-        (number.test_without 22 (ltb a u) (refusal 21 (u - a)) refl refl, tt),
+        harvest_clear (number.is 22) refl (suc n.recorded) (t.harvest ∷ []) refl,
+        (test_clear (number.is 22) refl (ltb a t.used) (refusal 21 (t.used - a)) refl, tt),
       ),
     )
 
-recording_keeps : (h u : ℕ) → Keeps (recording h u)
-recording_keeps h u =
+pub recording_keeps : (t : Typed) → Keeps (recording t)
+recording_keeps t =
     record {
-      step = recording_step h u;
-      without_22 = λ l. without 22 shift (note_refusal l h u) (shift_of (noted l h u)) (recording_without h u l);
+      step = recording_step t;
+      without_22 =
+          λ l.
+          let k = terms l in
+          let n = l.page.now in
+          without shift (note_refusal l t) (shift_of (noted l t)) (recording_refusals k n t)
+          (ap first_of (note_agrees l t)) (recording_without k n t);
       possible =
           λ x.
           let s = x.shift in
-          let f = record_refusal s h u in
-          (_, record_says s h u f (pick (is_none f) (recorded_by s h u) s) refl refl);
+          let f = record_refusal s t in
+          (_, record_says s t f (pick (is_none f) (recorded_by s t) s) refl refl);
     }
 
--- planning the rest
-planning_step :
-    (p : Lists) (b : List ℕ) (q : Request) (l : Logbook) → Sound q l → (a : Planning) →
+-- planning the rest: of the logbook's own shift it tells what is due, and means it
+pub planning_agreed :
+    (l : Logbook) → is_shift (shift_of l) ≡ true → (p : Outlook) (b : List ℕ) (a : Planning) →
     RestSays (shift_of l) p b a.budgets a.answer →
-    Step q (planning p b) l a
-planning_step p b q l i a says =
+    (tells ending (rest_said a.answer) (a.budgets ∷ []) ≡ due_planning l p b) × PlanningMeans l p b a.budgets
+planning_agreed l i p b a says =
     let n = l.page.now.recorded in
     let r = open_request l p in
-    let f = planning_refusal l p (length b) in
-    let e : rest_refusal (shift_of l) p (length b) ≡ f =
-    past_22 (shift_of l) (planning_refusals (terms l) l.page.now p (length b)) i.is_shift
-    ∙ sym (planning_agrees l p (length b)) in
+    let f = planning_refusal l p (length b ∷ []) in
+    let e : rest_refusal (shift_of l) p (length b ∷ []) ≡ f =
+    past_22 (shift_of l) (planning_refusals (terms l) l.page.now p (length b ∷ [])) i
+    ∙ sym (planning_agrees l p (length b ∷ [])) in
     let o : rest_said a.answer ≡ outcome f (ending_of r) = says.answer
     ∙ ap (λ (g : Refusal). outcome g (ending_of r)) e in
     let d : a.budgets ≡ due_budgets l p b =
-    says.budgets ∙ ap (λ (g : Refusal). pick (is_none g) (written_from n b (rest_budgets r)) b) e in
-    record {
-      tells_due =
-          ap (λ x. tells ending x (a.budgets ∷ [])) o
-          ∙ ap (λ (c : List ℕ). tells ending (outcome f (ending_of r)) (c ∷ [])) d;
-      leaves_it = refl;
-      sound = i;
-      means = subst (λ (g : Refusal). RestMeans g n r b a.budgets) e says.means;
-    }
+    says.budgets ∙ ap (λ (g : Refusal). pick (is_none g) (written_from n b (rest_budgets r)) b) e in (
+      ap (λ x. tells ending x (a.budgets ∷ [])) o
+          ∙ ap (λ (c : List ℕ). tells ending (outcome f (ending_of r)) (c ∷ [])) d,
+      subst (λ (g : Refusal). RestMeans g n r b a.budgets) e says.means,
+    )
 
-planning_without : (p : Lists) (b : List ℕ) (l : Logbook) → eqb (planning_refusal l p (length b)).number 22 ≡ false
-planning_without p b l =
-    let k = terms l in
-    let n = l.page.now in
+pub planning_without : (k : Terms) (n : Present) (p : Outlook) (ns : List ℕ) →
+    number.Without 22 (planning_refusals k n p ns)
+planning_without k n p ns =
     let i = n.recorded in
-    ap (λ (g : Refusal). eqb g.number 22) (planning_agrees l p (length b))
-    ∙ number.first_without 22 refl (planning_refusals k n p (length b)) (
-      number.length_without 22 k.frames (length p.harvest) refl refl,
+    both_clear (number.is 22) (length_refusals k.frames p ns) (frame_refusals k n p)
+    (lengths_clear (number.is 22) refl k.frames (lengths_of p ++ ns) refl) (
+      test_clear (number.is 22) refl (eqb i k.frames) (refusal 20 0) refl,
       (
-        number.length_without 22 k.frames (length p.least) refl refl,
-        (
-          number.length_without 22 k.frames (length p.most) refl refl,
-          (
-            number.length_without 22 k.frames (length b) refl refl,
-            (
-              number.test_without 22 (eqb i k.frames) (refusal 20 0) refl refl,
-              (
-                number.harvest_without 22 (suc i) (drop i p.harvest) refl refl,
-                (number.bounds_without 22 (suc i) (bounds_of (drop i p.least) (drop i p.most)) refl refl, tt),
-              ),
-            ),
-          ),
-        ),
+        harvest_clear (number.is 22) refl (suc i) (drop i p.harvest) refl,
+        (bounds_clear (number.is 22) refl (suc i) (bounds_of (drop i p.wanted.least) (drop i p.wanted.most)) refl, tt),
       ),
     )
 
--- a refusal of planning is one that the code can tell
-planning_told : (s : Shift) (p : Lists) (b : ℕ) → number.Tellable (rest_refusal s p b)
-planning_told s p b =
-    let k = s.terms.frames in
-    let n = s.now.recorded in
-    number.first_told (rest_refusals s p b) (
-      number.test_told (not (is_shift s)) given.NotShift,
+-- the refusals of a planning are such as the code can tell
+pub planning_told : (k : Terms) (n : Present) (p : Outlook) (ns : List ℕ) →
+    number.AllTellable (planning_refusals k n p ns)
+planning_told k n p ns =
+    let i = n.recorded in
+    number.joined_told (length_refusals k.frames p ns) (frame_refusals k n p)
+    (number.lengths_told k.frames (lengths_of p ++ ns)) (
+      number.test_told (eqb i k.frames) given.AllRecorded,
       (
-        number.length_told k (length p.harvest),
-        (
-          number.length_told k (length p.least),
-          (
-            number.length_told k (length p.most),
-            (
-              number.length_told k b,
-              (
-                number.test_told (eqb n k) given.AllRecorded,
-                (
-                  number.harvest_told (suc n) (drop n p.harvest),
-                  (number.bounds_told (suc n) (bounds_of (drop n p.least) (drop n p.most)), tt),
-                ),
-              ),
-            ),
-          ),
-        ),
+        number.harvest_told (suc i) (drop i p.harvest),
+        (number.bounds_told (suc i) (bounds_of (drop i p.wanted.least) (drop i p.wanted.most)), tt),
       ),
     )
 
-planning_possible : (p : Lists) (b : List ℕ) (x : State) →
+rest_told : (s : Shift) (p : Outlook) (ns : List ℕ) → number.Tellable (rest_refusal s p ns)
+rest_told s p ns =
+    number.first_told (rest_refusals s p ns)
+    (number.test_told (not (is_shift s)) given.NotShift, planning_told s.terms s.now p ns)
+
+pub planning_possible : (p : Outlook) (b : List ℕ) (x : State) →
     (a : Planning) × RestSays x.shift p b a.budgets a.answer
-planning_possible p b x = go (is_none (rest_refusal s p (length b))) refl (reachable q) refl
+planning_possible p b x = go (is_none (rest_refusal s p (length b ∷ []))) refl (reachable q) refl
   where
     s : Shift
     s = x.shift
@@ -187,30 +148,37 @@ planning_possible p b x = go (is_none (rest_refusal s p (length b))) refl (reach
     written = take s.now.recorded b ++ rest_budgets q
 
     go :
-        (t : Bool) → is_none (rest_refusal s p (length b)) ≡ t → (u : Bool) → reachable q ≡ u →
+        (t : Bool) → is_none (rest_refusal s p (length b ∷ [])) ≡ t → (u : Bool) → reachable q ≡ u →
         (a : Planning) × RestSays s p b a.budgets a.answer
     go false e u d =
-        let x = planning_told s p (length b) e in
+        let x = rest_told s p (length b ∷ []) e in
         (record { answer = Err x.0; budgets = b }, rest_refused s p b x.0 x.1)
     go true e true d = (
       record { answer = Ok rest.Planned; budgets = written },
       rest_done s p b e rest.Planned (rest_budgets q) (ending_full q d) refl,
     )
-    go true e false d =
-        let m = missing_to q.figures.end (last_from (pos q.figures.start) (trace q (zeros q))) in (
-          record { answer = Ok (rest.Short m); budgets = written },
-          rest_done s p b e (rest.Short m) (rest_budgets q) (ending_short q m d refl) refl,
-        )
+    go true e false d = (
+      record { answer = Ok (rest.Short (missing_with_zeros q)); budgets = written },
+      rest_done s p b e (rest.Short (missing_with_zeros q)) (rest_budgets q)
+          (ending_short q (missing_with_zeros q) d refl) refl,
+    )
 
-planning_keeps : (p : Lists) (b : List ℕ) → Keeps (planning p b)
+-- and 22 is not among it
+pub planning_not_22 : (l : Logbook) (p : Outlook) (b : List ℕ) → is_number 22 (due_planning l p b).answer ≡ false
+planning_not_22 l p b =
+    let k = terms l in
+    let n = l.page.now in
+    let m = length b ∷ [] in
+    without ending (planning_refusal l p m) (ending_of (open_request l p)) (planning_refusals k n p m)
+    (planning_agrees l p m) (planning_without k n p m)
+
+pub planning_keeps : (p : Outlook) (b : List ℕ) → Keeps (planning p b)
 planning_keeps p b =
     record {
-      step = planning_step p b;
-      without_22 = λ l. without 22 ending (planning_refusal l p (length b)) (ending_of (open_request l p))
-          (planning_without p b l);
+      step =
+          λ q l i a says.
+          let h = planning_agreed l i.is_shift p b a says in
+          record { tells_due = h.0; leaves_it = refl; sound = i; means = h.1 };
+      without_22 = λ l. planning_not_22 l p b;
       possible = planning_possible p b;
     }
-
-pub keeps : (c : Call) → Keeps (kind c)
-keeps (records h u) = recording_keeps h u
-keeps (plans p b) = planning_keeps p b

@@ -2,14 +2,8 @@
 -- speaks of kinds only.
 use Rattle.std.specs.Prelude.{Bool, false, List, ℕ, eqb}
 use Rattle.model.specs.Refusals.{Outcome, gives, refuses}
-use Rattle.shift.specs.declared.Shift.{Shift}
-use Rattle.rest.specs.Rest.{Ending}
 use Rattle.shiftbook.specs.Logbook.{Logbook, State}
-
--- what a call not refused gives: a shift, or how a planning ended
-pub data Value : Type 0 where
-  shift : Shift → Value
-  ending : Ending → Value
+use Rattle.shiftbook.specs.Value.{Value}
 
 -- what a call tells: a value or a refusal with its P, and each lent list that it may write, as it is afterwards
 pub record Told : Type 0 where

@@ -1,12 +1,11 @@
 -- Demand 3 over lists of calls: what a run of a shift is, what the logbook gives for it, and the statement about the
 -- list as a whole.
 use Rattle.std.specs.Prelude.{◌≡◌, Bool, true, false, ◌||◌, List, [], ◌∷◌, map, ℕ, ◌+◌, take}
-use Rattle.model.specs.Request.{Request, total}
+use Rattle.model.specs.Request.{Request}
 use Rattle.model.specs.Refusals.{is_none}
-use Rattle.shift.specs.declared.Totals.{Totals}
 use Rattle.shift.specs.Shift.{is_shift}
 use Rattle.shift.specs.Says.{ShiftAnswer, StartSays}
-use Rattle.shiftbook.specs.Logbook.{Logbook, opened, State, state_of}
+use Rattle.shiftbook.specs.Logbook.{Logbook, sums, opened, State, with_shift, state_of}
 use Rattle.shiftbook.specs.Kind.{Told, is_number}
 use Rattle.shiftbook.specs.Calls.{Call, kind}
 
@@ -56,15 +55,6 @@ abbrev pub comes_up : ℕ → List Told → Bool
 comes_up n [] = false
 comes_up n (t ∷ ts) = is_number n t.answer || comes_up n ts
 
--- the sums over a history
-abbrev pub sums : List Totals → Totals
-sums es =
-    record {
-      harvested = total (map (λ (e : Totals). e.harvested) es);
-      used = total (map (λ (e : Totals). e.used) es);
-      lost = total (map (λ (e : Totals). e.lost) es);
-    }
-
 -- state x at a moment of a shift started from q, after calls cs
 pub record Moment (q : Request) (cs : List Call) (x : State) : Type 0 where
   -- the whole record is the logbook's
@@ -93,15 +83,15 @@ pub record Demand3 (q : Request) (x : State) (ts : List Turn) : Type 0 where
   pub afterwards : Moment q (calls ts) (state_after x ts)
   pub moments : (n : ℕ) → Moment q (take n (calls ts)) (state_after x (take n ts))
 
--- the list begins with the shift as its start handed it over
-abbrev pub begun : ShiftAnswer → State
-begun a = record { shift = a.shift }
+-- the list begins with the shift as its start handed it over, and all else as the logbook opens
+abbrev pub begun : Request → ShiftAnswer → State
+begun q a = with_shift (state_of (opened q)) a.shift
 
 -- demand 3: it holds of every run of every shift that start handed over, lent l leasts and m mosts
 abbrev pub ShiftDemand : Type 0
 ShiftDemand =
     (q : Request) (l m : ℕ) (a : ShiftAnswer) → StartSays q l m a → is_none a.refusal ≡ true →
-    (ts : List Turn) → Run (begun a) ts → Demand3 q (begun a) ts
+    (ts : List Turn) → Run (begun q a) ts → Demand3 q (begun q a) ts
 
 -- it speaks of every list of calls: each has a run, whatever the shift
 abbrev pub EveryListRuns : Type 0

@@ -1,11 +1,10 @@
 -- Text in a lent list: a byte finds room or none, pieces go one behind the other, and a loop writes what is left of a
 -- text.
 use mathlib.Core.Path.{◌≡◌, refl, sym, ap, subst, ◌∙◌}
-use mathlib.Core.List.{List, [], ◌∷◌, ◌++◌, append_assoc, append-nil}
-use Prim.Native.Nat.{ℕ, suc, ◌+◌, ◌-◌, ◌≤◌, ◌<◌, min}
+use mathlib.Core.List.{List, [], ◌++◌, append_assoc, append-nil}
+use Prim.Native.Nat.{ℕ, ◌+◌, ◌-◌, ◌≤◌, min}
 use native.Mathlib.Omega.{arith}
-use lib.ListN.{length, get_or, set, take, drop, length-append, length-take, length-drop}
-use lib.Seq.{set_at, drop-cons, append_snoc}
+use lib.ListN.{length, take, drop, length-append, length-take, length-drop}
 use native.Mathlib.Decide.{dec_le}
 use Rattle.std.proofs.lemmas.List.{take_min, drop_at, drop-drop, take-append-le}
 use Rattle.std.proofs.Math.Seq.{take-nil, take_all, take_at, take-append-add}
@@ -45,42 +44,6 @@ pub wrote_whole : (t o o' : List ℕ) (n : ℕ) → length t ≤ length o → Wr
 wrote_whole t o o' n l w =
     let f = wrote_front t o o' n l w in
     (f.0, ap (take n) f.1 ∙ take_at t (drop (length t) o) n (sym f.0))
-
--- the same text, told otherwise
-pub wrote_same : {s t o o' : List ℕ} {n : ℕ} → s ≡ t → Wrote s o o' n → Wrote t o o' n
-wrote_same {o = o} {o'} {n} e w = subst (λ (x : List ℕ). Wrote x o o' n) e w
-
--- ---- a byte written on
-
--- a byte that finds room
-pub byte_put : (o : List ℕ) (n b : ℕ) → n < length o → Puts (b ∷ []) o n (set o n b) (n + 1)
-byte_put o n b l = record { behind = λ t z w. fits t z w }
-  where
-    fits : (t z : List ℕ) → Wrote t z o n → Wrote (t ++ (b ∷ [])) z (set o n b) (n + 1)
-    fits t z w =
-        let k = (wrote_within t z o n w).1 in
-        let f = wrote_front t z o n (omega (arith, w.count)) w in
-        let m = f.0 in
-        let s = t ++ (b ∷ []) in
-        let d : length s ≡ suc (length t) = length-append t (b ∷ []) ∙ omega arith in
-        let e : set o n b ≡ s ++ drop (suc (length t)) z =
-        rw (f.1, m)
-        (ap (λ (x : List ℕ). set (t ++ x) (length t) b) (drop-cons z (length t) 0 (omega arith))
-        ∙ (set_at t (get_or z (length t) 0) (drop (suc (length t)) z) b (length t) refl
-        ∙ sym (append_snoc t b (drop (suc (length t)) z)))) in
-        let g : take (length z) s ≡ s = take_all (length z) s (omega arith) in
-        record { bytes = e ∙ rw (g, d) refl; count = omega arith }
-
--- a byte that finds none
-pub byte_left_out : (o : List ℕ) (n b : ℕ) → length o ≤ n → Puts (b ∷ []) o n o n
-byte_left_out o n b l = record { behind = λ t z w. full t z w }
-  where
-    full : (t z : List ℕ) → Wrote t z o n → Wrote (t ++ (b ∷ [])) z o n
-    full t z w =
-        let k = (wrote_within t z o n w).1 in
-        let e : take (length z) (t ++ (b ∷ [])) ≡ take (length z) t =
-        take-append-le (length z) t (b ∷ []) (omega (arith, w.count)) in
-        record { bytes = w.bytes ∙ rw e refl; count = omega (arith, length-append t (b ∷ []), w.count) }
 
 -- ---- a text written on
 
@@ -146,9 +109,6 @@ module _ {o : List ℕ} {n : ℕ} where
 -- of the text x, from n in o on, all is written but y, from n' in o' on
 pub record Leaves (x o : List ℕ) (n : ℕ) (y o' : List ℕ) (n' : ℕ) : Type 0 where
   pub rest : (l : List ℕ) (m : ℕ) → Puts y o' n' l m → Puts x o n l m
-
-pub leaves_all : (x o : List ℕ) (n : ℕ) → Leaves x o n x o n
-leaves_all x o n = record { rest = λ l m p. p }
 
 module _ {x o y o₁ : List ℕ} {n n₁ : ℕ} where
   -- its next piece written

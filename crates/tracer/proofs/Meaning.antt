@@ -2,7 +2,7 @@
 use mathlib.Core.Path.{◌≡◌, refl, sym, ap, subst, ◌∙◌}
 use mathlib.Core.Bool.{Bool, true, false, false≢true}
 use mathlib.Core.List.{List}
-use Prim.Native.Nat.{ℕ, suc, ◌≤◌, ◌<◌}
+use Prim.Native.Nat.{ℕ, suc, ◌<◌}
 use native.Mathlib.Omega.{arith}
 use lib.Dec.{leb}
 use lib.IntN.{ℤ, pos}
@@ -10,7 +10,7 @@ use lib.Signed.{le_z, non_neg}
 use lib.ListN.{length, get_or}
 use borrow.Author.Tests.{leb-false}
 use Rattle.model.specs.Choice.{pick}
-use Rattle.model.specs.Request.{Request, frame_count}
+use Rattle.model.specs.Request.{Request}
 use Rattle.model.specs.Refusals.{gives, refuses, is_none, trace_refusal}
 use Rattle.model.specs.Trace.{below_zero, end_too_low, is_feasible, below_from, last_from, trace, verdict, EarliestBelow}
 use Rattle.model.specs.Trace.{trace_losses}
@@ -25,7 +25,7 @@ use Rattle.model.proofs.Answer.{told_some}
 use Rattle.tracer.specs.declared.Verdict.{Verdict as Answered}
 use Rattle.tracer.specs.declared.Verdict.TheVariants.{Feasible, EndTooLow, BelowZero}
 use Rattle.tracer.specs.Says.{verdict_said, judged, TraceSays}
-use Rattle.tracer.proofs.Search.{last_any, none_below}
+use Rattle.tracer.proofs.Search.{none_below}
 
 -- a refusal alters nothing and is answered
 pub refused : (q : Request) (bs : List ℕ) (xs : List ℤ) (ls : List ℕ) (e : Given) →
@@ -52,15 +52,11 @@ said_by k true t = refl
 said_by k false true = refl
 said_by k false false = refl
 
-said_judged : (q : Request) (bs : List ℕ) → 1 ≤ frame_count q → length bs ≡ frame_count q →
-    verdict_said (judged q.figures.end (trace q bs)) ≡ verdict q bs
-said_judged q bs l m =
+said_judged : (q : Request) (bs : List ℕ) → verdict_said (judged q.figures (trace q bs)) ≡ verdict q bs
+said_judged q bs =
     let zs = trace q bs in
     let k = below_from 1 zs in
-    let n = (trace_accounted q bs m).charges_long in
-    said_by k (leb 1 k) (le_z (pos q.figures.end) (last_from (pos 0) zs))
-    ∙ ap (λ (z : ℤ). pick (leb 1 k) (below_zero k) (pick (le_z (pos q.figures.end) z) is_feasible end_too_low))
-    (last_any (pos 0) (pos q.figures.start) zs (omega arith))
+    said_by k (leb 1 k) (le_z (pos q.figures.end) (last_from (pos q.figures.start) zs))
 
 -- only one verdict says "feasible"
 said_feasible : (v : Answered) → verdict_said v ≡ is_feasible → v ≡ Feasible
@@ -99,13 +95,13 @@ too_low_of q bs ys u p =
 -- where nothing is refused, the charges and losses of the trace and the verdict that the charges earn keep the promise
 pub traced : (q : Request) (bs : List ℕ) (xs ys : List ℤ) (ls ms : List ℕ) (v : Answered) →
     is_none (trace_refusal q (length bs) (length xs) (length ls)) ≡ true →
-    ys ≡ trace q bs → ms ≡ trace_losses q bs → v ≡ judged q.figures.end ys → TraceSays q bs xs ys ls ms (Ok v)
+    ys ≡ trace q bs → ms ≡ trace_losses q bs → v ≡ judged q.figures ys → TraceSays q bs xs ys ls ms (Ok v)
 traced q bs xs ys ls ms v n p o e =
     let g = trace_refusal q (length bs) (length xs) (length ls) in
     let w = trace_within q (length bs) (length xs) (length ls) n in
     let u : verdict_said v ≡ verdict q bs =
-    ap verdict_said e ∙ ap (λ (zs : List ℤ). verdict_said (judged q.figures.end zs)) p
-    ∙ said_judged q bs w.frames.some w.budgets in
+    ap verdict_said e ∙ ap (λ (zs : List ℤ). verdict_said (judged q.figures zs)) p
+    ∙ said_judged q bs in
     let m = model.verdict_feasible q bs w.budgets in
     record {
       answer = ap gives u ∙ sym (pick_by (is_none g) true (gives (verdict q bs)) (refuses g) n);

@@ -14,6 +14,7 @@ use mir.Syntax.{w64}
 use mir.Val.{to_z, of_z}
 use borrow.Author.Tests.{le-leb, lt-leb}
 use Rattle.model.specs.Choice.{pick}
+use Rattle.model.specs.declared.Figures.{Figures}
 use Rattle.model.specs.Trace.{below_from, last_from}
 use Rattle.model.proofs.Choice.{pick_by}
 use Rattle.tracer.specs.Says.{judged}
@@ -89,32 +90,27 @@ last_is x (suc n) (z ∷ []) e = let b : ⊥ = omega arith in absurd b
 last_is x zero (z ∷ (y ∷ zs)) e = let b : ⊥ = omega arith in absurd b
 last_is x (suc n) (z ∷ (y ∷ zs)) e = last_is z n (y ∷ zs) (omega arith)
 
--- whichever charge stands before at least one frame, the last is the same
-pub last_any : (x y : ℤ) (zs : List ℤ) → 1 ≤ length zs → last_from x zs ≡ last_from y zs
-last_any x y [] l = let b : ⊥ = omega arith in absurd b
-last_any x y (z ∷ zs) l = refl
-
 -- the answer where a frame is below zero
-pub judged_below : (e : ℕ) (zs : List ℤ) (k : ℕ) → k ≡ below_from 1 zs → 1 ≤ k → BelowZero k ≡ judged e zs
-judged_below e zs k p l =
+pub judged_below : (f : Figures) (zs : List ℤ) (k : ℕ) → k ≡ below_from 1 zs → 1 ≤ k → BelowZero k ≡ judged f zs
+judged_below f zs k p l =
     ap BelowZero p
     ∙ sym (pick_by (leb 1 (below_from 1 zs)) true (BelowZero (below_from 1 zs))
-    (pick (le_z (pos e) (last_from (pos 0) zs)) Feasible EndTooLow)
+    (pick (le_z (pos f.end) (last_from (pos f.start) zs)) Feasible EndTooLow)
     (le-leb 1 (below_from 1 zs) (omega arith)))
 
 -- the answer where none is: the machine's test of the last charge decides
-pub judged_end : (e n : ℕ) (zs : List ℤ) → below_from 1 zs < 1 → length zs ≡ suc n → e < 2 ^ 32 →
+pub judged_end : (f : Figures) (n : ℕ) (zs : List ℤ) → below_from 1 zs < 1 → length zs ≡ suc n → f.end < 2 ^ 32 →
     mag (get_or zs n (pos 0)) < 2 ^ 63
-    → (t : Bool) → le_z (to_z w64 e) (to_z w64 (of_z w64 (get_or zs n (pos 0)))) ≡ t →
-    pick t Feasible EndTooLow ≡ judged e zs
-judged_end e n zs l m fe fz t q =
-    let u : le_z (pos e) (get_or zs n (pos 0)) ≡ t = rw (widen e fe, back (get_or zs n (pos 0)) fz) at q in
-    let last : le_z (pos e) (last_from (pos 0) zs) ≡ t = rw (last_is (pos 0) n zs m) u in
+    → (t : Bool) → le_z (to_z w64 f.end) (to_z w64 (of_z w64 (get_or zs n (pos 0)))) ≡ t →
+    pick t Feasible EndTooLow ≡ judged f zs
+judged_end f n zs l m fe fz t q =
+    let u : le_z (pos f.end) (get_or zs n (pos 0)) ≡ t = rw (widen f.end fe, back (get_or zs n (pos 0)) fz) at q in
+    let last : le_z (pos f.end) (last_from (pos f.start) zs) ≡ t = rw (last_is (pos f.start) n zs m) u in
     sym
     (pick_by (leb 1 (below_from 1 zs)) false (BelowZero (below_from 1 zs))
-    (pick (le_z (pos e) (last_from (pos 0) zs)) Feasible EndTooLow)
+    (pick (le_z (pos f.end) (last_from (pos f.start) zs)) Feasible EndTooLow)
     (lt-leb 1 (below_from 1 zs) l)
-    ∙ pick_by (le_z (pos e) (last_from (pos 0) zs)) t Feasible EndTooLow last)
+    ∙ pick_by (le_z (pos f.end) (last_from (pos f.start) zs)) t Feasible EndTooLow last)
 
 -- where no frame is found, none but the last is below zero
 pub none_below : (k : ℕ) (zs : List ℤ) → below_from (suc k) zs ≡ 0 → (j : ℕ) → suc j < length zs →

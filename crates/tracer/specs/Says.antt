@@ -3,6 +3,7 @@
 use Rattle.std.specs.Prelude.{◌≡◌, ◌↔◌, true, false, List, map, ℕ, suc, ◌<◌, leb, ℤ, pos, length, get_or, Result, Ok, Err}
 use Rattle.std.specs.Int.Signed.{le_z, non_neg}
 use Rattle.model.specs.Choice.{pick}
+use Rattle.model.specs.declared.Figures.{Figures}
 use Rattle.model.specs.Request.{Request}
 use Rattle.model.specs.Charge as C
 use Rattle.model.specs.Refusals.{Outcome, gives, refuses, outcome, is_none, trace_refusal}
@@ -24,11 +25,11 @@ abbrev pub said : Result Answered Given → Outcome Verdict
 said (Ok v) = gives (verdict_said v)
 said (Err e) = refuses (told e)
 
--- the verdict that charges earn where nothing is refused, with the end charge that the last has to reach
-abbrev pub judged : ℕ → List ℤ → Answered
-judged e zs =
+-- the verdict that charges earn where nothing is refused, between these figures' start and end
+abbrev pub judged : Figures → List ℤ → Answered
+judged f zs =
     let k = below_from 1 zs in
-    pick (leb 1 k) (BelowZero k) (pick (le_z (pos e) (last_from (pos 0) zs)) Feasible EndTooLow)
+    pick (leb 1 k) (BelowZero k) (pick (le_z (pos f.end) (last_from (pos f.start) zs)) Feasible EndTooLow)
 
 -- q the request, bs the budgets, xs the charges lent and ys the charges handed back, ls the losses lent and ms the
 -- losses handed back, r the answer

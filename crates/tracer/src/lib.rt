@@ -35,5 +35,5 @@ pub fn trace(
 {
     request::check_trace(figures, harvest, budgets.len(), charges.len(), losses.len())?;
     recurrence::fill(figures, harvest, budgets, charges, losses);
-    Ok(verdicts::judge(figures.end, charges))
+    Ok(verdicts::judge(figures, charges))
 }

@@ -34,7 +34,7 @@ pub fn fill(
     };
     // By places: tried as a zip of the four lists, with `iter_mut`, of whose writes a proof knows nothing afterwards.
     for i in 0..charges.len() {
-        end = frame_end(capacity, end.charge, harvest[i], budgets[i]);
+        end = frame_end(capacity, end.charge, harvest[i], budgets[i] as u64);
         charges[i] = end.charge;
         losses[i] = end.lost as u32;
     }

@@ -10,7 +10,7 @@ use native.Mathlib.Omega.{arith}
 use lib.Dec.{eqb}
 use borrow.Author.Tests.{eq-eqb, ne_eqb}
 use lib.ListN.{length, get_or, set, drop, length-drop, length-set, drop_of_length-le}
-use lib.Seq.{drop-cons, drop-drop, get_or-drop, paste, paste-zero, paste-suc}
+use lib.Seq.{drop-cons, drop-drop, get_or-drop, paste, paste-suc}
 use Rattle.model.specs.Choice.{pick}
 use Rattle.model.specs.Lent.{over}
 use Rattle.words.specs.Words.{kind_of, mark_of, amount_in}
@@ -74,10 +74,6 @@ pub record Filled (says : ℕ → List ℕ → ℕ) (ws h₀ h : List ℕ) (i k 
   pub within : k ≤ length (each_frame says ws)
   pub size : length h ≡ length h₀
   pub list : h ≡ paste h₀ 0 (each_frame says ws) k
-
-pub filled_start : (says : ℕ → List ℕ → ℕ) (ws h : List ℕ) → Filled says ws h h 0 0
-filled_start says ws h =
-    record { rest = refl; within = omega arith; size = refl; list = paste-zero h 0 (each_frame says ws) }
 
 -- the whole list is filled
 pub record Full (says : ℕ → List ℕ → ℕ) (ws h₀ h : List ℕ) (k : ℕ) : Type 0 where

@@ -2,12 +2,12 @@
 use mathlib.Core.Path.{◌≡◌, refl, sym, ap, ◌∙◌, subst}
 use mathlib.Core.Bool.{Bool, true, false}
 use mathlib.Core.List.{List, [], ◌∷◌, ◌++◌}
-use Prim.Native.Nat.{ℕ, zero, suc, ◌+◌, ◌*◌, ◌^◌, ◌≤◌, ◌<◌}
+use Prim.Native.Nat.{ℕ, suc, ◌+◌, ◌*◌, ◌^◌, ◌≤◌, ◌<◌}
 use native.Mathlib.Nat.{zero-add}
 use native.Mathlib.Omega.{arith}
 use lib.Dec.{eqb}
-use borrow.Author.Tests.{eq-eqb, ne_eqb}
-use lib.ListN.{length, get_or, take, length-append}
+use borrow.Author.Tests.{ne_eqb}
+use lib.ListN.{length, get_or, length-append}
 use Rattle.model.specs.Choice.{pick}
 use Rattle.model.specs.Lent.{over}
 use Rattle.model.specs.Limits.{max_frames, frame_words, other_words, max_file_bytes, no_upper_end}
@@ -42,15 +42,8 @@ later_is (b ∷ bs) i = refl
 
 -- ---- how many words
 
--- a word for a least other than 0, and for a most that is an upper end
-pub least_none : (l : ℕ) → l ≡ 0 → least_words l ≡ []
-least_none l e = rw (eq-eqb l 0 e)
-
 pub least_some : (l : ℕ) → (l ≡ 0 → ⊥) → least_words l ≡ bound_word 4 l ∷ []
 least_some l n = rw (ne_eqb l 0 n)
-
-pub most_none : (m : ℕ) → m ≡ no_upper_end → most_words m ≡ []
-most_none m e = rw (eq-eqb m no_upper_end e)
 
 pub most_some : (m : ℕ) → (m ≡ no_upper_end → ⊥) → most_words m ≡ bound_word 5 m ∷ []
 most_some m n = rw (ne_eqb m no_upper_end n)
@@ -195,21 +188,6 @@ module _
       let n = bytes_length (words_of_frame h (bounds l m)) in
       let k = puts_length p.puts (omega (arith, n, left_length, room)) in
       omega (arith, n, k, left_length, room, p.puts.behind)
-
--- the words of a frame have room with those before it
-pub frame_room_lem :
-    (hs ls ms : List ℕ) → OneEach hs ls ms → (i : ℕ) → i < length hs →
-    length (words_of_frames (take i hs) (take i (bounds_of ls ms)))
-    + length (words_of_frame (get_or hs i 0) (bounds (get_or ls i 0) (get_or ms i 0)))
-    ≤ length (words_of_frames hs (bounds_of ls ms))
-frame_room_lem [] ls ms each i l = absurd (omega (arith, l))
-frame_room_lem (h ∷ hs) [] ms each i l = absurd (omega (arith, each))
-frame_room_lem (h ∷ hs) (x ∷ ls) [] each i l = absurd (omega (arith, each))
-frame_room_lem (h ∷ hs) (x ∷ ls) (m ∷ ms) each zero l = omega (arith, frames_cons h hs (bounds x m ∷ bounds_of ls ms))
-frame_room_lem (h ∷ hs) (x ∷ ls) (m ∷ ms) each (suc i) l =
-    let w = bounds x m in
-    let r = frame_room_lem hs ls ms (omega (arith, each), omega (arith, each)) i (omega (arith, l)) in
-    omega (arith, frames_cons h hs (w ∷ bounds_of ls ms), frames_cons h (take i hs) (w ∷ take i (bounds_of ls ms)), r)
 
 -- no frame left
 pub wrote_none : {xs : List ℕ} (bs : List Bounds) {a : Writer} → xs ≡ [] → Wrote (words_of_frames xs bs) a a

@@ -9,10 +9,7 @@ use borrow.Author.Tests.{le-ltb, ltb-false}
 use lib.ListN.{length, take, drop}
 use lib.Seq.{take_at}
 use Rattle.model.specs.declared.Figures.{Figures}
-use Rattle.std.specs.Prelude.{Ok, Err}
-use Rattle.model.specs.declared.refusal.Refusal.{Refusal as Given}
-use Rattle.model.specs.Answer.{told}
-use Rattle.model.proofs.Answer.{told_some}
+use Rattle.std.specs.Prelude.{Ok}
 use Rattle.model.specs.Refusals.{Refusal}
 use Rattle.model.specs.Choice.{pick}
 use Rattle.model.specs.Lent.{over}
@@ -131,19 +128,6 @@ read_small s h l m = go (ltb max_file_bytes (length s)) refl
         let d = ltb-false max_file_bytes (length s) e in
         by (form_of (words_of s)) (omega (arith, place_within opening 0 (words_of s), words_length s))
 
--- the reader's promise where it refuses
-pub read_refused_lem :
-    (s h l m : List ℕ) (f : Given) → told f ≡ read_refused s h l m → ReadSays s h l m h l m (Err f)
-read_refused_lem s h l m f e =
-    let n = told_some f in
-    record {
-      answer = rw (← e, n);
-      harvest = rw (← e, n);
-      least = rw (← e, n);
-      most = rw (← e, n);
-      file = λ t. absurd (false≢true (sym n ∙ (ap is_none e ∙ t)));
-    }
-
 -- and where it reads
 pub read_accepted :
     (s h l m h' l' m' : List ℕ) (x : Figures) (k : ℕ) → is_none (read_refused s h l m) ≡ true →
@@ -188,18 +172,6 @@ write_within q l m room e =
           omega (arith, s.frames.few),
         ),
       );
-    }
-
--- the writer's promise where it refuses
-pub write_refused :
-    (q : Request) (l m : ℕ) (o : List ℕ) (f : Given) → told f ≡ write_refusal q l m (length o) →
-    WriteSays q l m o o (Err f)
-write_refused q l m o f e =
-    let n = told_some f in
-    record {
-      answer = rw (← e, n);
-      bytes = rw (← e, n);
-      reads_back = λ t. absurd (false≢true (sym n ∙ (ap is_none e ∙ t)));
     }
 
 -- a request's file is not refused in any rooms of at least K

@@ -41,10 +41,10 @@ fn file_size(whole: Whole) -> usize
 fn check_content(whole: Whole, room: usize) -> Result<(), Refusal>
     ensures { refused result ≡ first_of (content_refusals (asked whole.entry.request) room) }
 {
-    let lists = whole.request.lists;
+    let Request { figures, lists } = whole.request;
     check_that(file_size(whole) <= room, Refusal::WrongLength)?;
-    check_figures(whole.request.figures, lists.harvest)?;
-    check_bounds(lists.least, lists.most, 1)
+    check_figures(figures, lists.harvest)?;
+    check_bounds(whole, 1)
 }
 
 // Puts the words of all frames behind those before them.

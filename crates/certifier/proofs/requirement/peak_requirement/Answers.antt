@@ -30,6 +30,6 @@ loop-k-preserved c =
         c.saturating_sub-charge.ensures,
         f.plain.drain_fits,
       ),
-      rw (c.saturating_sub-charge.ensures, c.max-top.ensures)
+      rw (c.saturating_sub-charge.ensures, c.max-top.ensures, c.capacity_for.ensures)
           (law.requires_on c.args.budgets.now f here refl (rw k l.invariant.1)),
     )

@@ -23,7 +23,7 @@ open_store-capacity-requires c =
     lent_within k l m (first_none (lent_refusals k l m) (ap is_none (sym c.in_ok-check_lists.ensures.refused))) in
     let limits : OpenWithin r = open_within r (first_none (open_limits r) (ap is_none (sym c.in_ok-check_open.ensures))) in
     let few : total r.harvest ≤ max_harvest * max_frames = total_fits r.harvest limits.harvest_fits lent.frames.few in
-    (limits.start_small, omega (arith, few, c.sum.ensures.is))
+    (lent.frames.few, omega (arith, few, limits.start_small))
 
 pub returns : goal.returns
 returns c =
@@ -34,4 +34,4 @@ returns c =
     (first_passed (open_limits r) (open_refusals r) c.in_ok-check_open.ensures refl
     (c.check_bounded.ensures
     ∙ ap (λ (f : Refusal). first_of (bounds_refused 1 r.bounds ∷ out_of_reach r ∷ f ∷ []))
-    (eleven_open r c.open_store-capacity.result (omega (arith, c.open_store-capacity.ensures, c.sum.ensures.is)))))
+    (eleven_open r c.open_store-capacity.result (c.open_store-capacity.ensures))))

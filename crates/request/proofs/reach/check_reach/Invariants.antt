@@ -4,4 +4,4 @@ use Rattle.model.specs.Request.{total}
 use Rattle.request.proofs.reach.check_reach.Given as goal
 
 abbrev pub invariant-loop-h : goal.invariant-loop-h
-invariant-loop-h l = l.missing - total (drop l.h-index l.harvest) ≡ l.initial.missing - total l.harvest
+invariant-loop-h l = l.missing - total (drop l.h-index l.whole.request.lists.harvest.now) ≡ l.initial.missing - total l.whole.request.lists.harvest.now

@@ -1,6 +1,7 @@
 -- What is left of the lists is feasible from the charge reached where the whole is from the start.
 use Rattle.std.proofs.Common.{length, ◌≡◌}
-use Rattle.model.specs.Charge.{feasible_from}
+use Rattle.model.specs.Charge.{drawable}
+use Rattle.model.specs.Request.{request}
 use Rattle.request.proofs.reach.leasts_drawable.Given as goal
 
 abbrev pub invariant-loop-h : goal.invariant-loop-h
@@ -10,5 +11,5 @@ invariant-loop-h l =
     (goal.iterator-loop-h).can_next l.h-iterator
     × (goal.iterator-loop-h).is_finite l.h-iterator
     × (length ls ≡ length hs)
-    × (feasible_from l.figures.capacity l.figures.end l.charge hs ls
-    ≡ feasible_from l.figures.capacity l.figures.end l.figures.start l.harvest l.least)
+    × (drawable (request (record l.figures { start = l.charge }) hs) ls
+    ≡ drawable (request l.figures l.whole.request.lists.harvest.now) l.whole.request.lists.least.now)

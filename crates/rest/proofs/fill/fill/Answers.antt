@@ -17,11 +17,11 @@ returns-in-Err-clause-written c =
     law.fill_short c.args.whole.request q.fillable o.0 o.1 c.in-Err.unreachable c.in-Err.ensures
     (length c.args.budgets.now) c.fill.new.self q.budgets_len (c.fill.ensures.after (λ y e. e))
 
-pub of_request-requires : goal.of_request-requires
-of_request-requires c =
+pub of-requires : goal.of-requires
+of-requires c =
     let q = c.requires in
     let o = c.args.whole.one_each in
-    law.fill_ready c.args.whole.request q.fillable o.0 o.1 c.sum.result c.sum.ensures.is c.in_default.ensures
+    law.fill_ready c.args.whole.request q.fillable o.0 o.1 c.in_default.ensures
 
 pub returns-clause-ending : goal.returns-clause-ending
 returns-clause-ending c =
@@ -33,5 +33,5 @@ pub returns-clause-written : goal.returns-clause-written
 returns-clause-written c =
     let q = c.requires in
     let o = c.args.whole.one_each in
-    law.fill_full c.args.whole.request q.fillable o.0 o.1 c.sum.result c.plan_into.new.budgets c.sum.ensures.is
-    c.in_default.ensures (rw (c.of_request.ensures.rule, c.of_request.ensures.lists, c.of_request.ensures.start) at c.plan_into.ensures)
+    law.fill_full c.args.whole.request q.fillable o.0 o.1 c.plan_into.new.budgets c.in_default.ensures
+    (rw (c.of.ensures.0, c.of.ensures.1, c.of.ensures.2) at c.plan_into.ensures)

@@ -15,7 +15,7 @@ returns-in-Some c =
     (position_from_yields_List law.is_below _ _ _ c.position.ensures.ran (YieldsList-from_slice (take n zs) c.iter.ensures.rest)
     (λ x b q k. search (rules, tests))
     ∙ position_from-zero law.is_below (take n zs)) in
-    law.judged_below c.args.end zs (c.in-Some.i + 1) (omega arith) (omega arith)
+    law.judged_below c.args.figures zs (c.in-Some.i + 1) (omega arith) (omega arith)
 
 pub returns-in-None : goal.returns-in-None
 returns-in-None c =
@@ -25,8 +25,8 @@ returns-in-None c =
     (position_from_yields_List law.is_below _ _ _ c.position.ensures.ran (YieldsList-from_slice (take n zs) c.iter.ensures.rest)
     (λ x b q k. search (rules, tests))
     ∙ position_from-zero law.is_below (take n zs)) in
-    law.judged_end c.args.end (length zs - 1) zs (omega arith) (omega arith) (omega arith) (omega arith) true
-    c.if-end-charges.true
+    law.judged_end c.args.figures (length zs - 1) zs (omega arith) (omega arith) (omega arith) (omega arith) true
+    c.if-figures-charges.true
 
 pub returns-in-None-2 : goal.returns-in-None-2
 returns-in-None-2 c =
@@ -36,5 +36,5 @@ returns-in-None-2 c =
     (position_from_yields_List law.is_below _ _ _ c.position.ensures.ran (YieldsList-from_slice (take n zs) c.iter.ensures.rest)
     (λ x b q k. search (rules, tests))
     ∙ position_from-zero law.is_below (take n zs)) in
-    law.judged_end c.args.end (length zs - 1) zs (omega arith) (omega arith) (omega arith) (omega arith) false
-    c.if-end-charges.false
+    law.judged_end c.args.figures (length zs - 1) zs (omega arith) (omega arith) (omega arith) (omega arith) false
+    c.if-figures-charges.false
