@@ -7,7 +7,7 @@ use Rattle.std.specs.Prelude.{ℕ, ◌+◌, ◌*◌, ℤ, pos, negsuc}
 use Prim.Native.String.{String}
 use Rattle.model.specs.Limits.{no_upper_end}
 use Rattle.model.specs.Request.{Request, bounded_request, figures, frame_count}
-use Rattle.model.specs.Refusals.{Refusal, refusal, none, plan_refusal, own_plan_refusal, needed_refusal}
+use Rattle.model.specs.Refusals.{Refusal, refusal, none, plan_refusal, whole_plan_refusal, needed_refusal}
 use Rattle.model.specs.Refusals.{trace_refusal, grade_refusal, start_refusal}
 use Rattle.model.specs.Charge.{charges, losses}
 use Rattle.model.specs.Trace.{trace, trace_losses, Verdict, below_zero, end_too_low, is_feasible, verdict}
@@ -38,7 +38,7 @@ passes f = f ≡ none
 -- the refusal of a request with all lent lists of length K: of planning it, of its needed capacity, of tracing it, of a
 -- shift's start from it, and of writing it into a list of that room
 abbrev pub planning : Request → Refusal
-planning r = own_plan_refusal r
+planning r = whole_plan_refusal r
 
 abbrev pub needing : Request → Refusal
 needing r = needed_refusal r (frame_count r) (frame_count r)

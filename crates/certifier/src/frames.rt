@@ -1,5 +1,5 @@
-// How a request becomes frames. `Frames::at` and `capacity_for` alone know the charge rule; all else works on any
-// frame.
+// How a request becomes frames. In planning, `Frames::at` and `capacity_for` alone know the charge rule; all else works
+// on any frame.
 ghost use Rattle.std.specs.Prelude.{◌≡◌, ◌<◌, ◌^◌};
 ghost use Rattle.model.specs.Request.{bounds};
 ghost use Rattle.model.specs.Plan.{capacity_for, most_of};
@@ -55,10 +55,10 @@ impl<'a> Frames<'a> {
 }
 
 // The least capacity with which a frame can spend and carry on so much.
-pub(crate) fn capacity_for(so_much: u64, inflow: u64) -> u64
-    ensures { result ≡ capacity_for so_much inflow }
+pub fn capacity_for(amount: u64, inflow: u64) -> u64
+    ensures { result ≡ capacity_for amount inflow }
 {
-    so_much.saturating_sub(inflow)
+    amount.saturating_sub(inflow)
 }
 
 // The most of a frame; all energy where there is no upper end.

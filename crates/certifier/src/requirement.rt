@@ -5,8 +5,7 @@ ghost use Rattle.certifier.specs.Says.{frames_in, frame_count};
 
 use super::frames::{Frames, capacity_for};
 
-// The least capacity with which every frame can spend its budget and carry on what is required after it. These are a
-// plan's budgets, read after its `Draft`.
+// The least capacity whose ceilings hold, in every frame, its drain, its budget and what is required after it.
 pub fn peak_requirement(frames: Frames, budgets: &[u32]) -> u64
     requires { (length budgets.now ≡ frame_count frames) × (frame_count frames < 2 ^ 20) }
     ensures { result ≡ peak frames.entry.rule.end (frames_in frames.entry) budgets.now }
@@ -15,9 +14,9 @@ pub fn peak_requirement(frames: Frames, budgets: &[u32]) -> u64
     let mut top = 0;
     for k in (0..frames.count()).rev() {
         let f = frames.at(k);
-        let so_much = f.drain + budgets[k] as u64 + charge;
-        top = capacity_for(so_much, f.inflow).max(top);
-        charge = so_much.saturating_sub(f.inflow);
+        let amount = f.drain + budgets[k] as u64 + charge;
+        top = capacity_for(amount, f.inflow).max(top);
+        charge = amount.saturating_sub(f.inflow);
     }
     top
 }

@@ -13,5 +13,4 @@ mod peak;
 mod plan;
 mod task;
 
-pub use certifier::Rule;
 pub use task::Task;

@@ -9,7 +9,7 @@ use super::task::Task;
 use certifier::peak_requirement;
 use model::limits::MAX_FRAMES;
 
-// The same with a list for N frames.
+// `Task::peak` with a list for N frames.
 fn peak_in<const N: usize>(task: Task) -> u64
     requires { (frame_count task.frames ≤ N) × (N ≤ max_frames) }
     ensures { PeakOf task.entry result }
@@ -21,7 +21,7 @@ fn peak_in<const N: usize>(task: Task) -> u64
 }
 
 impl Task<'_> {
-    // The least capacity with which every frame can spend its budget and carry on what is required after it.
+    // The least capacity whose ceilings hold, in every frame, its drain, its budget and what is required after it.
     pub fn peak(self) -> u64
         ensures { PeakOf self.entry result }
     {

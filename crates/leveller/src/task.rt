@@ -27,7 +27,7 @@ impl<'a> Task<'a> {
     ghost use Rattle.leveller.specs.Plan.{Ready};
     ghost use Rattle.leveller.specs.Says.{TaskOf};
 
-    // A request to be planned, were its capacity this. The energy is given because whoever calls has it.
+    // A request to be planned, were its capacity this. The energy is handed on, since `open` makes its capacity of it.
     fn with(request: Request<'a>, capacity: u64, energy: u64) -> Task<'a>
         requires { Ready request capacity × (energy ≡ most_energy (asked request)) }
         ensures { TaskOf request.entry capacity result }
@@ -55,7 +55,7 @@ impl<'a> Task<'a> {
         )
     }
 
-    // A request to be planned without limit, with a capacity that no charge meets.
+    // A request to be planned without limit, with a capacity that no charge exceeds.
     pub fn open(request: Request<'a>) -> Task<'a>
         requires { Ready request (boundless (asked request)) }
         ensures { TaskOf request.entry (boundless (asked request.entry)) result }

@@ -134,7 +134,7 @@ unlimited_serves r c h f w v best =
     }
 
 module _ (r : Request) (open_reach : reachable_unlimited r ≡ true) where
-  -- then it is reachable with a capacity that no charge meets
+  -- then it is reachable with a capacity that no charge exceeds
   reach : reachable (with_capacity r (boundless r)) ≡ true
   reach = sym (reachable_unlimited_is r (boundless r) (omega arith)) ∙ open_reach
 

@@ -25,10 +25,10 @@ greatest [] = 0
 greatest (x ∷ xs) = max x (greatest xs)
 
 -- the capacity that each frame asks for where all that it has is required: charge and harvest
-unfoldable pub asked : ℕ → List Frame → List ℕ → List ℕ
-asked y [] bs = []
-asked y (f ∷ fs) [] = []
-asked y (f ∷ fs) (b ∷ bs) = capacity_for (y + f.inflow) f.inflow ∷ asked (left f y b) fs bs
+unfoldable pub asked_for : ℕ → List Frame → List ℕ → List ℕ
+asked_for y [] bs = []
+asked_for y (f ∷ fs) [] = []
+asked_for y (f ∷ fs) (b ∷ bs) = capacity_for (y + f.inflow) f.inflow ∷ asked_for (left f y b) fs bs
 
 -- where the ceiling is not met, all goes into the drain, the budget and what is left
 all_there : (f : Frame) (y b : ℕ) → y + f.inflow ≤ f.ceiling → f.drain + b ≤ room f y →
@@ -79,8 +79,8 @@ module _ (s : Store) (e : ℕ) where
   peak_asked : (y : ℕ) (hs : List ℕ) → y + total hs ≤ s.capacity → y + total hs ≤ s.energy →
       Feasible e y (frames_of s hs []) (plan e y (frames_of s hs [])) →
       peak e (frames_of s hs []) (plan e y (frames_of s hs [])) ≡ greatest
-      (asked y (frames_of s hs []) (plan e y (frames_of s hs [])))
-  unfolding frames_of plan peak asked
+      (asked_for y (frames_of s hs []) (plan e y (frames_of s hs [])))
+  unfolding frames_of plan peak asked_for
   peak_asked y [] p q k = refl
   peak_asked y (h ∷ hs) p q k =
       let f = frame_of s h absent in
@@ -95,9 +95,9 @@ module _ (s : Store) (e : ℕ) where
   -- what each frame asks for is the charge before it; the last one after is the end charge
   asked_carried : (y : ℕ) (hs : List ℕ) → y + total hs ≤ s.capacity → y + total hs ≤ s.energy →
       Feasible e y (frames_of s hs []) (plan e y (frames_of s hs [])) →
-      max y (max e (greatest (asked y (frames_of s hs []) (plan e y (frames_of s hs [])))))
+      max y (max e (greatest (asked_for y (frames_of s hs []) (plan e y (frames_of s hs [])))))
       ≡ max y (max e (greatest (carried y (frames_of s hs []) (plan e y (frames_of s hs [])))))
-  unfolding frames_of plan asked carried
+  unfolding frames_of plan asked_for carried
   asked_carried y [] p q k = refl
   asked_carried y (h ∷ []) p q k =
       let f = frame_of s h absent in
@@ -112,7 +112,7 @@ module _ (s : Store) (e : ℕ) where
       let b = budget e z g (frames_of s hs []) in
       let ps = plan e (left g z b) (frames_of s hs []) in
       let l : z ≤ y + h = (all_there f y (budget e y f (frames_of s (x ∷ hs) [])) (omega arith) k.0.have).1 in
-      one_more y h x z (greatest (asked (left g z b) (frames_of s hs []) ps))
+      one_more y h x z (greatest (asked_for (left g z b) (frames_of s hs []) ps))
       (max (left g z b) (greatest (carried (left g z b) (frames_of s hs []) ps)))
       (asked_carried z (x ∷ hs) (omega arith) (omega arith) k.1)
     where
@@ -124,7 +124,7 @@ module _ (s : Store) (e : ℕ) where
 pub needed_asked : (f : Figures) (hs : List ℕ) →
     let r = request f hs in
     reachable_unlimited r ≡ true →
-    needed_of r ≡ max f.start (max f.end (greatest (asked f.start (frames_with r (boundless r)) (open_plan r))))
+    needed_of r ≡ max f.start (max f.end (greatest (asked_for f.start (frames_with r (boundless r)) (open_plan r))))
 unfolding needed_of open_plan
 needed_asked f hs reach =
     let r = request f hs in

@@ -174,6 +174,13 @@ reachable_unlimited_is r c h =
     ap (λ (t : Bool). is_none (first_of (out_of_reach r ∷ refuse_if (not t) 11 ∷ [])))
     (sym (unlimited_storage r c h (leasts r)))
 
+-- and without limit 11 never comes without bounds either
+pub absent_open : (f : Figures) (hs : List ℕ) → f.end ≤ f.start + total hs → reachable_unlimited (request f hs) ≡ true
+absent_open f hs p =
+    let r = request f hs in
+    reachable_unlimited_is r (most_energy r) (omega arith)
+    ∙ absent_reachable (record f { capacity = most_energy r }) hs p p
+
 -- neither 9 nor 11 without limit holds exactly when the leasts are feasible without limit
 pub reachable_open : (r : Request) → reachable_unlimited r ≡ feasible_unlimited r (leasts r)
 reachable_open r =

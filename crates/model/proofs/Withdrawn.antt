@@ -1,4 +1,4 @@
--- What is taken out of the store: one number for each budget, and in sum the budgets and what is due beside the end.
+-- What is taken out of the store: one number for each budget, and with the end charge as much as budgets and what is due.
 use mathlib.Core.Path.{◌≡◌, refl}
 use mathlib.Core.List.{List, [], ◌∷◌}
 use Prim.Native.Nat.{ℕ, ◌+◌, ◌≤◌}

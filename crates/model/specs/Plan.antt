@@ -46,7 +46,7 @@ frames_with r c = frames_of (store_of r c) r.harvest r.bounds
 unfoldable pub plan_of : Request → List ℕ
 plan_of r = plan r.figures.end r.figures.start (frames_with r r.figures.capacity)
 
--- a capacity that no charge meets
+-- a capacity that no charge exceeds, nor the end charge
 abbrev pub boundless : Request → ℕ
 boundless r = most_energy r + r.figures.end
 
@@ -54,7 +54,8 @@ boundless r = most_energy r + r.figures.end
 unfoldable pub open_plan : Request → List ℕ
 open_plan r = plan r.figures.end r.figures.start (frames_with r (boundless r))
 
--- the least capacity with which each frame can spend its drain and its budget and carry on what is required after it
+-- the least capacity whose ceilings hold, in each frame, its drain, its budget and what is required after it; that the
+-- store can hold the end charge is the needed capacity's to say
 unfoldable pub peak : ℕ → List Frame → List ℕ → ℕ
 peak e [] bs = 0
 peak e (f ∷ fs) [] = 0

@@ -133,9 +133,9 @@ plan_refusals r l m ns =
 abbrev pub plan_refusal : Request → ℕ → ℕ → List ℕ → Refusal
 plan_refusal r l m ns = first_of (plan_refusals r l m ns)
 
--- of planning a request with lists of its own length, an entry for each frame
-abbrev pub own_plan_refusal : Request → Refusal
-own_plan_refusal r = let k = frame_count r in plan_refusal r k k (k ∷ [])
+-- of planning a request, all lists having an entry for each frame
+abbrev pub whole_plan_refusal : Request → Refusal
+whole_plan_refusal r = let k = frame_count r in plan_refusal r k k (k ∷ [])
 
 -- of the needed capacity, in which the capacity plays no part: 3 is for start and end, 11 without limit
 abbrev pub open_limits : Request → List Refusal

@@ -26,7 +26,7 @@ traced_end c x h b =
     record { charge = min_z (pos c) left; lost = excess left c }
 
 -- what the store holds once it has taken in what it can of the harvest, in a frame that withdraws b and ends with charge
--- z: that charge, since what is withdrawn is drawn before
+-- z: that charge, whatever b, since what is withdrawn is drawn before
 abbrev pub fullest : ℤ → ℕ → ℤ
 fullest z b = z
 

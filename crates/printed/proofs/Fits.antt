@@ -10,7 +10,7 @@ use Rattle.model.specs.Refusals.{Refusal}
 use Rattle.model.specs.Choice.{pick}
 use Rattle.model.specs.Limits.{max_frames, max_harvest, max_capacity}
 use Rattle.model.specs.Request.{Request, frame_count, total}
-use Rattle.model.specs.Refusals.{is_none, own_plan_refusal}
+use Rattle.model.specs.Refusals.{is_none, whole_plan_refusal}
 use Rattle.model.specs.Charge.{frame_end, charges_from, charges, losses_from, losses}
 use Rattle.model.specs.Curves.{house_curve, worth, grade}
 use Rattle.model.specs.Plan.{plan_of, needed_of}
@@ -124,7 +124,7 @@ request_fits q many = go (is_none f) refl
     k = frame_count q
 
     f : Refusal
-    f = own_plan_refusal q
+    f = whole_plan_refusal q
 
     go : (t : Bool) → is_none f ≡ t → length (pick t (showing (shown_of q (plan_of q))) (refused_line f)) ≤ listing_bytes
     go true e =

@@ -13,7 +13,7 @@ use Rattle.model.specs.Refusals.{Refusal}
 use Rattle.model.specs.Choice.{pick}
 use Rattle.model.specs.Limits.{max_frames}
 use Rattle.model.specs.Request.{Request, leasts, frame_count}
-use Rattle.model.specs.Refusals.{is_none, is_unreachable, reachable, reachable_unlimited, own_plan_refusal}
+use Rattle.model.specs.Refusals.{is_none, is_unreachable, reachable, reachable_unlimited, whole_plan_refusal}
 use Rattle.model.specs.Charge.{FrameEnd, frame_end, ends_from, charges, losses}
 use Rattle.model.specs.Plan.{plan_of}
 use Rattle.model.proofs.Needed.{needed_is}
@@ -147,7 +147,7 @@ request_means q = go (is_none f) refl
     k = frame_count q
 
     f : Refusal
-    f = own_plan_refusal q
+    f = whole_plan_refusal q
 
     g : Shown
     g = shown_of q (plan_of q)

@@ -13,7 +13,7 @@ use Rattle.model.specs.Limits.{max_frames, max_harvest, max_capacity}
 use Rattle.model.specs.Request.{Bounds, Request, frame_count, leasts, most_energy}
 use Rattle.model.specs.Charge.{feasible}
 use Rattle.model.specs.Refusals.{refusal, none, is_none, refuse_if, first_of, served_refusals, plan_refusals}
-use Rattle.model.specs.Refusals.{own_plan_refusal}
+use Rattle.model.specs.Refusals.{whole_plan_refusal}
 use Rattle.model.specs.Refusals.{harvest_over_limit, bad_bounds, bounds_refused, out_of_reach}
 use Rattle.request.proofs.Within.{test_failed}
 use Rattle.wordfile.specs.File.{read_refusal}
@@ -75,7 +75,7 @@ reach_short r h = go (ltb (most_energy r) r.figures.end)
     go false = none_short
 
 -- what planning refuses of a request with lists of its own length
-pub plan_short : (r : Request) → length r.bounds ≤ frame_count r → Short (own_plan_refusal r)
+pub plan_short : (r : Request) → length r.bounds ≤ frame_count r → Short (whole_plan_refusal r)
 plan_short r many =
     let k = frame_count r in
     let f = r.figures in

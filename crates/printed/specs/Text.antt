@@ -4,7 +4,7 @@ use Rattle.model.specs.Refusals.{Refusal}
 use Rattle.model.specs.Choice.{pick}
 use Rattle.model.specs.Limits.{max_frames, max_harvest, max_capacity}
 use Rattle.model.specs.Request.{Request, frame_count}
-use Rattle.model.specs.Refusals.{is_none, own_plan_refusal}
+use Rattle.model.specs.Refusals.{is_none, whole_plan_refusal}
 use Rattle.model.specs.Charge.{charges, losses}
 use Rattle.model.specs.Curves.{house_curve, grade}
 use Rattle.model.specs.Plan.{plan_of, needed_of}
@@ -127,7 +127,7 @@ plan_text q = showing (shown_of q (plan_of q))
 
 -- the listing of a request: its plan, or its refusal
 abbrev pub request_text : Request → List ℕ
-request_text q = let f = own_plan_refusal q in pick (is_none f) (plan_text q) (refused_line f)
+request_text q = let f = whole_plan_refusal q in pick (is_none f) (plan_text q) (refused_line f)
 
 -- what the plan program prints of a file: the reader's refusal, or the listing of its request
 abbrev pub listing : List ℕ → List ℕ

@@ -2,7 +2,7 @@
 ghost use Rattle.std.specs.Prelude.{◌≡◌, [], ◌∷◌};
 ghost use Rattle.model.specs.Answer.{asked, leasts_lent, mosts_lent, refused};
 ghost use Rattle.model.specs.Request.{request};
-ghost use Rattle.model.specs.Refusals.{first_of, lent_refusals, needed_refusal, open_limits, plan_refusal};
+ghost use Rattle.model.specs.Refusals.{first_of, needed_refusal, open_limits, plan_refusal};
 ghost use Rattle.model.specs.Refusals.{served_refusals, start_refusal, trace_refusal};
 
 use crate::figures::{check_capacity, check_figures, check_harvest};
@@ -27,15 +27,6 @@ pub fn check_trace(
     check_length(frames, charges)?;
     check_length(frames, losses)?;
     check_figures(figures, harvest)
-}
-
-// A number of frames with lists of so many leasts and mosts.
-pub fn check_lent(frames: usize, least: usize, most: usize) -> Result<(), Refusal>
-    ensures { refused result ≡ first_of (lent_refusals frames least most) }
-{
-    check_frames(frames)?;
-    check_length(frames, least)?;
-    check_length(frames, most)
 }
 
 // A request that is to be served.

@@ -39,7 +39,7 @@ pub fn check_harvest(harvest: &[u32], first: u64) -> Result<(), Refusal>
     }
 }
 
-// The first of them.
+// Refusals 3 to 6 of figures and harvests.
 pub fn check_figures(figures: Figures, harvest: &[u32]) -> Result<(), Refusal>
     ensures { refused result ≡ first_of (figure_refusals (request figures harvest.now)) }
 {

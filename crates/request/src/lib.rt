@@ -1,6 +1,5 @@
 // The refusals that several entries share, as code over lent lists: each function answers what model's definition of
-// that refusal says. All of it is inner: the entries of other crates call it. First the whole order of planning, the
-// needed capacity, tracing and a shift's start, then its parts.
+// that refusal says. All of it is inner: the entries of other crates call it.
 #![tactic(auto, using(model::proofs::Answer::told_some))]
 
 mod bounds;
@@ -13,7 +12,7 @@ mod sums;
 mod whole;
 
 pub use bounds::check_bounds;
-pub use entries::{check_lent, check_needed, check_plan, check_start, check_trace};
+pub use entries::{check_needed, check_plan, check_start, check_trace};
 pub use figures::{check_figures, check_harvest};
 pub use frames::{check_frames, check_length};
 pub use reach::check_reachable;

@@ -5,7 +5,7 @@ ghost use Rattle.model.specs.Limits.{max_frames};
 ghost use Rattle.model.specs.Refusals.{first_of, lent_refusals};
 ghost use Rattle.request.specs.Each.{OneEach};
 
-use crate::entries::check_lent;
+use crate::frames::check_lent;
 use model::{Refusal, Request};
 
 // A request with a least and a most for each frame, and with no more frames than a request may have.
@@ -16,7 +16,7 @@ pub struct Whole<'a> {
     pub ghost few: { length request.lists.harvest.now ≤ max_frames },
 }
 
-// A request with such lists: so many frames, with a least and a most for each.
+// The request as a whole one, or refusal 1, 2 or 7 of its lists.
 pub fn check_lists<'a>(request: Request<'a>) -> Result<Whole<'a>, Refusal>
     ensures refused { refused result ≡ first_of (lent_refusals (length request.entry.lists.harvest.now) (leasts_lent
         request.entry) (mosts_lent request.entry)) }

@@ -18,7 +18,7 @@ use Rattle.request.proofs.Within.{length_within}
 use Rattle.shift.specs.declared.Shift.{Shift}
 use Rattle.shift.specs.Shift.{is_shift}
 use Rattle.rest.specs.Rest.{Outlook, part_refusals, part_refusal, length_refusals, rest_bounds}
-use Rattle.rest.specs.Rest.{frame_refusals, rest_refusals, rest_refusal}
+use Rattle.rest.specs.Rest.{unrecorded_refusals, rest_refusals, rest_refusal}
 use Rattle.rest.specs.Says.{PartSays}
 use Rattle.shift.proofs.Record.{Sound, sound_by, open_frame}
 
@@ -103,7 +103,7 @@ rest_open s p ns e =
     let n = s.now.recorded in
     let all = first_none (rest_refusals s p ns) e in
     let sound = sound_by s all.0 in
-    let parts = both_none (length_refusals k p ns) (frame_refusals s.terms s.now p) all.1 in
+    let parts = both_none (length_refusals k p ns) (unrecorded_refusals s.terms s.now p) all.1 in
     let lengths = parts.0 in
     let frames = parts.1 in
     let more = open_frame s.terms s.now frames.0 in

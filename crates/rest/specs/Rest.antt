@@ -16,12 +16,12 @@ use Rattle.shift.specs.declared.Shift.{Shift}
 use Rattle.shift.specs.Shift.{not_shift, all_recorded}
 use Rattle.rest.specs.declared.outlook.Outlook.{Outlook as Lent}
 
--- what is wanted of the rest: a least and a most for each frame
+-- what is wanted: a least and a most for each frame of the shift, recorded ones included
 pub record Wanted : Type 0 where
   pub least : List ℕ
   pub most : List ℕ
 
--- what planning the rest goes by: a harvest for each frame, and what is wanted
+-- what planning the rest goes by: a harvest for each frame of the shift, and what is wanted
 pub record Outlook : Type 0 where
   pub harvest : List ℕ
   pub wanted : Wanted
@@ -59,12 +59,13 @@ rest_over_limit n hs = harvest_over_limit (suc n.recorded) (drop n.recorded hs)
 abbrev pub rest_bounds : Present → Wanted → Refusal
 rest_bounds n w = bounds_refused (suc n.recorded) (bounds_of (drop n.recorded w.least) (drop n.recorded w.most))
 
--- those of planning that come after 7, and all but 22, with lists of lengths ns that are written
-abbrev pub frame_refusals : Terms → Present → Outlook → List Refusal
-frame_refusals k n p = all_recorded k n ∷ rest_over_limit n p.harvest ∷ rest_bounds n p.wanted ∷ []
+-- the refusals of planning that come after 7: 20, 6 and 10
+abbrev pub unrecorded_refusals : Terms → Present → Outlook → List Refusal
+unrecorded_refusals k n p = all_recorded k n ∷ rest_over_limit n p.harvest ∷ rest_bounds n p.wanted ∷ []
 
+-- all of planning but 22, with lists of lengths ns that are written
 abbrev pub planning_refusals : Terms → Present → Outlook → List ℕ → List Refusal
-planning_refusals k n p ns = length_refusals k.frames p ns ++ frame_refusals k n p
+planning_refusals k n p ns = length_refusals k.frames p ns ++ unrecorded_refusals k n p
 
 abbrev pub rest_refusals : Shift → Outlook → List ℕ → List Refusal
 rest_refusals s p ns = not_shift s ∷ planning_refusals s.terms s.now p ns

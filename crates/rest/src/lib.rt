@@ -17,7 +17,7 @@ mod rest_request;
 pub use outlook::{Outlook, Wanted};
 
 // How planning the rest ends; short comes with what zero budgets miss of the end charge, which may be nothing. No
-// Option: C and the definitions have both names, and `Some(missing)` would not say that the plan is missing.
+// Option: C and the definitions have both names, and `None` would have to mean that it is planned.
 #[derive(Clone, Copy, PartialEq, Eq, Debug)]
 pub enum Rest {
     Planned,

@@ -14,7 +14,7 @@ use shift::Shift;
 pub fn rest_request<'a>(shift: Shift, outlook: Outlook<'a>) -> Whole<'a>
     requires one_each { OneEach outlook.harvest.now outlook.wanted.least.now outlook.wanted.most.now }
     requires few { length outlook.harvest.now ≤ max_frames }
-    requires reach { shift.now.recorded ≤ length outlook.harvest.now }
+    requires recorded_within { shift.now.recorded ≤ length outlook.harvest.now }
     ensures { asked result.request ≡ rest_request shift (lent outlook.entry) }
 {
     let next = shift.now.recorded as usize;

@@ -2,7 +2,7 @@
 use mathlib.Core.Path.{◌≡◌, refl, sym, ap, ◌∙◌}
 use mathlib.Core.Bool.{Bool, true, false, ◌&&◌, not, false≢true}
 use mathlib.Core.List.{List, [], ◌∷◌}
-use Prim.Native.Nat.{ℕ, suc, ◌+◌, ◌-◌, ◌*◌, ◌≤◌, ◌<◌}
+use Prim.Native.Nat.{suc, ◌+◌, ◌-◌, ◌*◌, ◌≤◌, ◌<◌}
 use native.Mathlib.Omega.{arith}
 use lib.Dec.{eqb, ltb, leb}
 use borrow.Author.Tests.{leb-true, eqb-true, eqb-false, ltb-false, not-false, le-leb, eq-eqb}
@@ -64,10 +64,6 @@ terms_hold k e =
       start_low = leb-true _ _ d.0;
       end_low = leb-true _ _ f.0;
     }
-
--- terms without one of them
-pub no_terms : (k : Terms) → (TermsHold k → ⊥) → false ≡ are_terms k
-no_terms k h = sym (refuted (are_terms k) (λ (e : are_terms k ≡ true). h (terms_hold k e)))
 
 -- terms with all but the last of them
 pub by_end :

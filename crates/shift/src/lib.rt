@@ -1,5 +1,5 @@
 // The running shift: started from a valid, reachable request, and recorded frame by frame. Its rest is planned in
-// crate rest, which also asks for refusals 22 and 20.
+// crate rest, which also checks for refusals 22 and 20.
 #![tactic(auto, using(model::proofs::Answer::told_some))]
 
 ghost use Rattle.std.specs.Prelude.{◌≡◌, true};

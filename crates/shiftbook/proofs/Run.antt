@@ -11,6 +11,7 @@ use Rattle.model.specs.Refusals.{is_none, start_refusal}
 use Rattle.model.proofs.Choice.{pick_by}
 use Rattle.shift.specs.declared.Totals.{Totals}
 use Rattle.shift.specs.Shift.{started, no_shift, is_shift}
+use Rattle.shift.specs.Says.{ShiftAnswer}
 use Rattle.shift.proofs.Record.{sound_of}
 use Rattle.shiftbook.specs.Logbook.{Logbook, opened, State, with_shift, shift_of, state_of}
 use Rattle.shiftbook.specs.Calls.{Call, kind}
@@ -97,6 +98,10 @@ from_start q i ts r =
           (calls_take n ts)
           (moment q (take n ts) (follows q (opened q) s (take n ts) (run_take (state_of (opened q)) n ts r)));
     }
+
+-- the list begins with the shift that start handed over
+pub begins_handed : (q : Request) (a : ShiftAnswer) → (begun q a).shift ≡ a.shift
+begins_handed q a = refl
 
 -- demand 3: what start handed over is the logbook's first state
 pub shift_demand : ShiftDemand

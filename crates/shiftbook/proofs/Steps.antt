@@ -22,7 +22,7 @@ use Rattle.model.specs.declared.refusal.Refusal.TheVariants as given
 use Rattle.rest.specs.declared.Rest.TheVariants as rest
 use Rattle.shift.specs.Shift.{is_shift, plus, recording_refusals, record_refusal, recorded_by}
 use Rattle.rest.specs.Rest.{Outlook, missing_with_zeros, ending_of, rest_budgets, rest_request, RestMeans}
-use Rattle.rest.specs.Rest.{lengths_of, length_refusals, frame_refusals, planning_refusals, rest_refusals}
+use Rattle.rest.specs.Rest.{lengths_of, length_refusals, unrecorded_refusals, planning_refusals, rest_refusals}
 use Rattle.rest.specs.Rest.{rest_refusal, written_from}
 use Rattle.shift.specs.Says.{ShiftAnswer, RecordSays}
 use Rattle.rest.specs.Says.{RestSays, rest_said}
@@ -106,7 +106,7 @@ pub planning_without : (k : Terms) (n : Present) (p : Outlook) (ns : List ℕ) �
     number.Without 22 (planning_refusals k n p ns)
 planning_without k n p ns =
     let i = n.recorded in
-    both_clear (number.is 22) (length_refusals k.frames p ns) (frame_refusals k n p)
+    both_clear (number.is 22) (length_refusals k.frames p ns) (unrecorded_refusals k n p)
     (lengths_clear (number.is 22) refl k.frames (lengths_of p ++ ns) refl) (
       test_clear (number.is 22) refl (eqb i k.frames) (refusal 20 0) refl,
       (
@@ -120,7 +120,7 @@ pub planning_told : (k : Terms) (n : Present) (p : Outlook) (ns : List ℕ) →
     number.AllTellable (planning_refusals k n p ns)
 planning_told k n p ns =
     let i = n.recorded in
-    number.joined_told (length_refusals k.frames p ns) (frame_refusals k n p)
+    number.joined_told (length_refusals k.frames p ns) (unrecorded_refusals k n p)
     (number.lengths_told k.frames (lengths_of p ++ ns)) (
       number.test_told (eqb i k.frames) given.AllRecorded,
       (

@@ -14,8 +14,8 @@ use Rattle.shiftbook.specs.Logbook.{with_shift}
 use Rattle.shiftbook.specs.Value.{shift, ending}
 use Rattle.shiftbook.specs.Kind.{Told, tells, Kind}
 
--- a call that hands a shift over, with what it promises; by the logbook f refuses it and leaves the logbook alone, or
--- it is m afterwards
+-- a call that hands a shift over, with what it promises; by the logbook f refuses it and the logbook stays, or
+-- it becomes m
 abbrev pub handing : (Shift → ShiftAnswer → Type 0) → (Logbook → Refusal) → (Logbook → Logbook) → Kind
 handing says f m =
     record {

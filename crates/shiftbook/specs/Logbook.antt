@@ -59,12 +59,12 @@ terms l =
     record { frames = frame_count l.of; capacity = f.capacity; start = f.start; end = f.end }
 
 -- no frame is left
-abbrev pub is_full : Logbook → Bool
-is_full l = eqb l.page.now.recorded (frame_count l.of)
+abbrev pub none_left : Logbook → Bool
+none_left l = eqb l.page.now.recorded (frame_count l.of)
 
 -- 20: every frame is recorded already
 abbrev pub all_noted : Logbook → Refusal
-all_noted l = refuse_if (is_full l) 20
+all_noted l = refuse_if (none_left l) 20
 
 -- 6: harvest h of frame i above its limit; of a recording it is the frame being recorded
 abbrev pub over_limit : ℕ → ℕ → Refusal

@@ -83,7 +83,7 @@ pub record Demand3 (q : Request) (x : State) (ts : List Turn) : Type 0 where
   pub afterwards : Moment q (calls ts) (state_after x ts)
   pub moments : (n : ℕ) → Moment q (take n (calls ts)) (state_after x (take n ts))
 
--- the list begins with the shift as its start handed it over, and all else as the logbook opens
+-- the state at the start: the logbook's, with the shift as its start handed it over (proofs/Run.antt)
 abbrev pub begun : Request → ShiftAnswer → State
 begun q a = with_shift (state_of (opened q)) a.shift
 
