@@ -31,7 +31,8 @@ use Rattle.model.specs.declared.refusal.Refusal.{Refusal as Given}
 use Rattle.model.specs.Answer.{told}
 use Rattle.rest.specs.declared.Rest.{Rest}
 use Rattle.rest.specs.declared.Rest.TheVariants as rest
-use Rattle.shift.specs.Shift.{started, is_shift, not_shift, all_recorded, typed, use_too_great, recording_refusals, recorded_by}
+use Rattle.shift.specs.Shift.{started, is_shift, not_shift, all_recorded, typed, drawn, use_too_great, recorded_by}
+use Rattle.shift.specs.Shift.{recording_refusals}
 use Rattle.shift.proofs.Record.{past_22}
 use Rattle.rest.specs.Rest.{Outlook, outlook, planning_refusals, lengths_of, length_refusals, zeros, missing_to}
 use Rattle.rest.specs.Rest.{ending_of, rest_request, rest_over_limit, rest_bounds, rest_refusal, rest_budgets}
@@ -84,7 +85,7 @@ record_20_only s t a p e =
     (harvest_over_limit (suc n.recorded) (t.harvest ∷ []) ∷ use_too_great k n t ∷ [])
     (shift_not_20 s, tt) (
       harvest_clear (number.is 20) refl (suc n.recorded) (t.harvest ∷ []) refl,
-      (test_clear (number.is 20) refl (ltb x t.used) (refusal 21 (t.used - x)) refl, tt),
+      (test_clear (number.is 20) refl (ltb x (drawn t)) (refusal 21 (drawn t - x)) refl, tt),
     )
     (ap (λ (g : Refusal). g.number) (sym p.refusal) ∙ e)
 
