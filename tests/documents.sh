@@ -1,6 +1,7 @@
 #!/usr/bin/env bash
 # The documents against the files: every name in a READING table of names stands in the file beside it, every inner function is public,
-# the entries ask nothing and promise what READING says, must-fail edits have controls, and the outputs in README are those of the programs.
+# the entries ask nothing and promise what READING says, must-fail edits have controls, the outputs in README are those of the programs, and
+# the lists of foreign crates are one.
 # The last line is 'N passed, M failed'.
 set -u
 cd "$(dirname "$0")/.." || exit 2
@@ -142,5 +143,13 @@ for program in plan day; do
     [ -s crates/$program/stdout ] && [[ $(cat README.md) == *"$(cat crates/$program/stdout)"* ]]
     verdict $? "README: not what $program prints"
 done
+
+# the foreign crates of rust/*/Cargo.toml, with the part of their versions that stays; tools/install has Debian's names, some with a feature
+foreign=$(sed -sn '/dependencies\]$/,/^$/p' rust/*/Cargo.toml |
+    sed -nE 's/^([a-z0-9_-]+) = (\{ version = )?"(0\.[0-9]+|[1-9][0-9]*).*/\1-\3/p' | sort)
+listed_in() { sed -n 's/.*for crate in \([^;]*\);.*/\1/p' "$1" | tr ' ' '\n' | sort; }
+check 'rust/cargo: the crates that Cargo.toml names' "$foreign" "$(listed_in rust/cargo)"
+check 'tools/install: the crates that Cargo.toml names' "$(sed 's/-[0-9.]*$//; s/_/-/g' <<<"$foreign" | sort)" \
+    "$(listed_in tools/install | sed 's/+.*//' | sort)"
 
 finish documents.sh
