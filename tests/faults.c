@@ -1,7 +1,9 @@
 /* Preloaded into a program, so that its reads and writes move at most PIECE bytes each, after PAUSE microseconds, and the call after so many
- * fails with the error ERRNO, or EIO: READS, WRITES, SYNCS, CUTS (changes of a length), LINKS. Standard error is left alone. */
+ * fails with the error ERRNO, or EIO: READS, WRITES, SYNCS, CUTS (changes of a length), LINKS. Before the write
+ * after STOPS of them the process stops itself. Standard error is left alone. */
 #define _DEFAULT_SOURCE
 #include <errno.h>
+#include <signal.h>
 #include <stdlib.h>
 #include <sys/syscall.h>
 #include <sys/types.h>
@@ -36,6 +38,8 @@ ssize_t read(int fd, void *bytes, size_t length) {
 
 ssize_t write(int fd, const void *bytes, size_t length) {
     static size_t calls;
+    if (fd != STDERR_FILENO && calls == number("STOPS", (size_t)-1))
+        raise(SIGSTOP);
     return move(SYS_write, "WRITES", &calls, fd, (void *)bytes, length);
 }
 

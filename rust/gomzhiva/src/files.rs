@@ -1,7 +1,9 @@
 //! Files by name, with `-` for standard input and output; an output file is written whole or not at all.
 
 use crate::failure::Failure;
-use crate::streams;
+use crate::identity::identity;
+use crate::names::printed;
+use crate::{streams, temporary};
 use rustix::fs::{cwd, fchown, renameat_with, RenameFlags};
 use rustix::process::{Gid, Uid};
 use std::ffi::OsString;
@@ -10,7 +12,6 @@ use std::io::{self, Read, Write};
 use std::iter::successors;
 use std::os::unix::fs::MetadataExt;
 use std::path::{Path, PathBuf};
-use std::process;
 
 /// The most bytes of a request as text; of a longer input one byte more is read, and no further.
 pub const MOST_BYTES: usize = 1 << 20;
@@ -50,7 +51,7 @@ impl Place {
 
     /// As it was given.
     pub fn given(&self) -> String {
-        self.0.display().to_string()
+        printed(&self.0)
     }
 
     /// What messages call it as an input.
@@ -92,7 +93,7 @@ impl Place {
     }
 
     /// Refuses an output file that is one of the inputs, whose place it would take, or another name of a standard output.
-    pub fn is_none_of(&self, inputs: &[&Place]) -> Result<(), Failure> {
+    pub fn refuse_any_of(&self, inputs: &[&Place]) -> Result<(), Failure> {
         let mut others: Vec<&Path> = inputs.iter().map(|input| input.as_input()).collect();
         others.extend(STANDARD_OUTPUTS.iter().map(Path::new));
         if !self.is_standard_output() && is_one_of(&self.0, &others) {
@@ -145,11 +146,6 @@ fn read_file(path: &Path) -> io::Result<Vec<u8>> {
     Ok(bytes)
 }
 
-/// What a file is whatever its name.
-pub fn identity(known: &Metadata) -> (u64, u64) {
-    (known.dev(), known.ino())
-}
-
 /// Puts the bytes in the place of what a file held, if that may be written; what is no regular file, such as a device, is
 /// written as it is.
 fn replace(path: &Path, bytes: &[u8]) -> io::Result<()> {
@@ -172,7 +168,8 @@ fn linked(path: &Path) -> PathBuf {
     links.take(MOST_LINKS + 1).last().unwrap_or_default()
 }
 
-fn folder_of(path: &Path) -> &Path {
+/// The folder in which a file stands.
+pub fn folder_of(path: &Path) -> &Path {
     match path.parent() {
         Some(parent) if !parent.as_os_str().is_empty() => parent,
         _ => Path::new("."),
@@ -212,8 +209,9 @@ fn put(
     give_name: impl Fn(&Path, &Path) -> io::Result<()>,
 ) -> io::Result<File> {
     let folder = File::open(folder_of(path))?;
-    let (file, new) = new_file(folder_of(path))?;
-    match fill(file, bytes, known).and_then(|()| give_name(&new, path)) {
+    // It stays open, and so locked, until it has its own name.
+    let (mut file, new) = temporary::create(folder_of(path))?;
+    match fill(&mut file, bytes, known).and_then(|()| give_name(&new, path)) {
         Ok(()) => Ok(folder),
         Err(error) => {
             let _ = fs::remove_file(&new);
@@ -222,26 +220,14 @@ fn put(
     }
 }
 
-/// A file under a name that nothing else has.
-fn new_file(folder: &Path) -> io::Result<(File, PathBuf)> {
-    let mut tries = 0;
-    loop {
-        let path = folder.join(format!(".gomzhiva-{}-{tries}.tmp", process::id()));
-        match OpenOptions::new().write(true).create_new(true).open(&path) {
-            Err(error) if error.kind() == io::ErrorKind::AlreadyExists && tries < 100 => tries += 1,
-            opened => return Ok((opened?, path)),
-        }
-    }
-}
-
-fn fill(mut file: File, bytes: &[u8], known: Option<Metadata>) -> io::Result<()> {
+fn fill(file: &mut File, bytes: &[u8], known: Option<Metadata>) -> io::Result<()> {
     if let Some(known) = known {
         let own = file.metadata()?;
         if (known.uid(), known.gid()) != (own.uid(), own.gid()) {
             // SAFETY: both numbers are those of a file.
             let (owner, group) = unsafe { (Uid::from_raw(known.uid()), Gid::from_raw(known.gid())) };
             // Who may not give a file away keeps it, and gives it to the group if that is allowed; the permissions stay.
-            let _ = fchown(&file, Some(owner), Some(group)).or_else(|_| fchown(&file, None, Some(group)));
+            let _ = fchown(&*file, Some(owner), Some(group)).or_else(|_| fchown(&*file, None, Some(group)));
         }
         file.set_permissions(known.permissions())?;
     }

@@ -1,23 +1,30 @@
 //! The blending-room energy planner for people. Every number that it shows comes from the proved library, save what it was
-//! given, and sums, means, maxima and counts of what it shows. Its own word is only where supplied budgets leave their bounds.
+//! given, sums, means, maxima and counts of what it shows, and clock times. Its own word is only whether a text is in the
+//! notation, with frames in their order, where budgets leave their bounds, and which uses it doubts.
 
 mod chart;
 mod cli;
 mod commands;
 mod failure;
 mod files;
+mod identity;
 mod journal;
+mod kinds;
+mod manual;
+mod names;
 mod report;
 mod request;
 mod streams;
+mod temporary;
 
 use clap::Parser;
 use cli::Cli;
 use failure::Failure;
+use std::env::args_os;
 use std::process::ExitCode;
 
 fn main() -> ExitCode {
-    let (done, prints_product) = match Cli::try_parse() {
+    let (done, prints_product) = match parsed() {
         Ok(cli) => (commands::run(&cli.command), cli.command.prints_product()),
         Err(error) if error.use_stderr() => (Err(Failure::Fault(whole(&error))), true),
         Err(help) => (files::print(&(whole(&help) + "\n")), true),
@@ -26,6 +33,14 @@ fn main() -> ExitCode {
         Ok(()) => ExitCode::SUCCESS,
         Err(failure) => ExitCode::from(tell(&failure, prints_product)),
     }
+}
+
+/// The arguments; an error repeats them with their control characters escaped.
+fn parsed() -> Result<Cli, clap::Error> {
+    Cli::try_parse().map_err(|error| {
+        let escaped = Cli::try_parse_from(args_os().map(names::escaped_argument));
+        escaped.err().unwrap_or(error)
+    })
 }
 
 /// The text of a usage error, or of the help that was asked for.

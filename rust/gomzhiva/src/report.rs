@@ -1,25 +1,27 @@
 //! Tables for people and for spreadsheets.
 
-use crate::request::{Bound, FrameLists, NO_BOUND};
-use std::fmt::Write;
+use std::fmt::{Display, Write};
 use std::iter::once;
 
-/// A cell of a table: a number, or none.
-pub type Cell = Option<i64>;
+/// A cell of a table: a number or a time, or none.
+pub type Cell = Option<String>;
+
+/// A column: its name, and a cell for each row.
+pub type Column = (&'static str, Vec<Cell>);
 
 /// Columns with their names, one cell of each for each row.
-pub struct Table<'a> {
-    pub columns: Vec<(&'a str, Vec<Cell>)>,
+pub struct Table {
+    pub columns: Vec<Column>,
 }
 
-impl Table<'_> {
+impl Table {
     fn rows(&self) -> usize {
         self.columns[0].1.len()
     }
 
-    /// Aligned to the right, two blanks between columns; a cell without a number has a dash.
+    /// Aligned to the right, two blanks between columns; a cell with nothing has a dash.
     pub fn aligned(&self) -> String {
-        let lines = self.lines(NO_BOUND);
+        let lines = self.lines("-");
         let width = |column: usize| lines.iter().map(|cells| cells[column].len()).max().unwrap_or(0);
         let widths: Vec<usize> = (0..self.columns.len()).map(width).collect();
         let mut text = String::new();
@@ -34,40 +36,24 @@ impl Table<'_> {
         text
     }
 
-    /// With commas, and a line of names; a cell without a number is empty.
+    /// With commas, and a line of names; a cell with nothing is empty.
     pub fn csv(&self) -> String {
         let lines = self.lines("");
         lines.iter().map(|cells| cells.join(",") + "\n").collect()
     }
 
-    /// The names, then the cells of each row, with this for those without a number.
+    /// The names, then the cells of each row, with this for those with nothing.
     fn lines(&self, none: &str) -> Vec<Vec<String>> {
         let names = self.columns.iter().map(|(name, _)| name.to_string()).collect();
-        let cell = |cell: Cell| cell.map_or(none.to_string(), |number| number.to_string());
-        let row = |row: usize| self.columns.iter().map(|(_, list)| cell(list[row])).collect();
+        let cell = |cell: &Cell| cell.clone().unwrap_or_else(|| none.to_string());
+        let row = |row: usize| self.columns.iter().map(|(_, list)| cell(&list[row])).collect();
         once(names).chain((0..self.rows()).map(row)).collect()
     }
 }
 
-/// The numbers of consecutive frames, from the one after `before`.
-pub fn frames(before: u32, count: usize) -> Vec<Cell> {
-    (1..=count as i64)
-        .map(|frame| Some(i64::from(before) + frame))
-        .collect()
-}
-
-/// A list of the library's as a table's column.
-pub fn column<N: Copy + Into<i64>>(list: &[N]) -> Vec<Cell> {
-    list.iter().map(|&number| Some(number.into())).collect()
-}
-
-/// The bounds that some frame has as columns with their names.
-pub fn bound_columns(frames: &FrameLists) -> Vec<(&'static str, Vec<Cell>)> {
-    let column = |bound: Bound| {
-        let cells = frames.list(bound).iter().map(|&listed| bound.given(listed));
-        (bound.name(), cells.map(|cell| cell.map(i64::from)).collect())
-    };
-    frames.bounds().into_iter().map(column).collect()
+/// A list as a table's column.
+pub fn column<N: Display>(list: &[N]) -> Vec<Cell> {
+    list.iter().map(|number| Some(number.to_string())).collect()
 }
 
 /// The sum of a list.
@@ -119,9 +105,9 @@ mod tests {
     fn tables_are_aligned_and_csv_is_plain() {
         let table = Table {
             columns: vec![
-                ("frame", frames(0, 2)),
+                ("frame", column(&[1, 2])),
                 ("charge", column(&[-10_000_000_i64, 3])),
-                ("most", vec![None, Some(5)]),
+                ("most", vec![None, Some("5".to_string())]),
             ],
         };
         assert_eq!(

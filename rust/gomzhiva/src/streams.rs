@@ -52,5 +52,6 @@ pub fn write(bytes: &[u8]) -> io::Result<()> {
 
 /// Tells something on standard error. Where that is closed nobody can be told; the exit status remains.
 pub fn tell(message: impl Display) {
-    let _ = writeln!(io::stderr(), "{message}");
+    // In one piece, so that what several processes tell is not mixed up.
+    let _ = io::stderr().write_all(format!("{message}\n").as_bytes());
 }

@@ -45,9 +45,8 @@ frame,harvest,budget,charge,loss
 ";
 
 /// The day as text, as a table alone, and as a word file.
-fn folder_of_the_day() -> Folder {
-    let folder = Folder::new();
-    folder.write("day.txt", DAY);
+fn folder_of_each_form() -> Folder {
+    let folder = Folder::of_the_day();
     folder.write("day.csv", "\u{feff}\"harvest\"\r\n6\r\n4\r\n0\r\n0\r\n5\r\n5");
     folder.write("day.words", day_words());
     folder
@@ -61,7 +60,7 @@ fn assert_done(ran: &Ran, out: &str) {
 
 #[test]
 fn a_plan_is_a_table_with_a_summary_in_words() {
-    let folder = folder_of_the_day();
+    let folder = folder_of_each_form();
     let words = "
 6 frames: 20 Wh harvested, 20 Wh budgeted (mean 3.3, most 4), 0 Wh lost.
 The charge goes from 2 to 2 Wh, and is at most 5 Wh after a frame, of a capacity of 5 Wh.
@@ -78,7 +77,7 @@ Worth 320 480 100 by house curves 0, 1 and 2.
 
 #[test]
 fn a_listing_is_document_01s() {
-    let folder = folder_of_the_day();
+    let folder = folder_of_each_form();
     for request in ["day.txt", "day.words"] {
         assert_done(&folder.run(&["plan", "--listing", request]), LISTING);
     }
@@ -88,7 +87,7 @@ fn a_listing_is_document_01s() {
 
 #[test]
 fn a_table_for_a_spreadsheet_is_read_again() {
-    let folder = folder_of_the_day();
+    let folder = folder_of_each_form();
     let table = folder.run(&["plan", "--csv", "day.txt"]);
     assert_done(&table, CSV);
     let without_losses = CSV.replace(",loss", "").replace(",0\n", "\n");
@@ -193,8 +192,8 @@ fn only_the_bounds_that_there_are_have_a_column() {
     // Bounds that say nothing leave everything as it is without them.
     let table = "harvest least most\n6 0 4294967295\n4 - -\n0 - -\n0 - -\n5 0 -\n5 - 4294967295\n";
     for (command, shown) in [("plan --csv -", CSV), ("plan --listing -", LISTING), ("text -", DAY)] {
-        let arguments: Vec<&str> = command.split(' ').chain(FIGURES).collect();
-        assert_done(&folder.run_with(&arguments, table.as_bytes()), shown);
+        let line = format!("{command} {}", FIGURES.join(" "));
+        assert_done(&folder.line_with(&line, table), shown);
     }
     let words = folder.run_with(&[&["words", "-"], &FIGURES[..]].concat(), table.as_bytes());
     assert_eq!(words.out, day_words());
@@ -339,8 +338,7 @@ fn bounds_that_cannot_be_are_refused_with_their_frame() {
             "words - out",
             "shift start - --journal out",
         ] {
-            let arguments: Vec<&str> = command.split(' ').collect();
-            let ran = folder.run_with(&arguments, request.as_bytes());
+            let ran = folder.line_with(command, &request);
             assert_refused(&ran, "refused 10 2");
             assert_eq!(
                 ran.err,
@@ -399,41 +397,61 @@ fn leasts_out_of_reach_are_refused_with_where_and_how_much() {
         let [capacity, start, end] = figures;
         let request = format!("capacity {capacity}\nstart {start}\nend {end}\nharvest least\n{frames}");
         for command in commands {
-            let ran = folder.run_with(&command.split(' ').collect::<Vec<_>>(), request.as_bytes());
+            let ran = folder.line_with(command, &request);
             assert_refused(&ran, "refused 11 0");
-            let told = format!("gomzhiva: refused 11 0: {sentence}\n");
+            let advice = match *command {
+                "plan -" => "; `--without-leasts` plans what can be done without them",
+                _ => "",
+            };
+            let told = format!("gomzhiva: refused 11 0: {sentence}{advice}\n");
             assert_eq!(ran.err, told, "{command} of {request}");
         }
         assert!(folder.names().is_empty());
     };
     // With a larger battery they are feasible.
-    let dry = format!("{reach} run the store dry in frame 2; a capacity of 5 Wh would be enough");
+    let dry =
+        format!("{reach} run the store dry in frame 2, with 3 Wh missing there; a capacity of 5 Wh would be enough");
     refused(&plans, ["2", "0", "0"], "6 -\n0 5\n", &dry);
     let low = format!("{reach} leave 2 Wh, and 3 Wh were asked for; a capacity of 6 Wh would be enough");
     refused(&plans, ["5", "0", "3"], "6 -\n0 3\n", &low);
-    // With none they are.
+    // With a fuller battery they are, and with none that is larger.
     let every = [&plans[..], &["needed -"]].concat();
-    let low = format!("{reach} leave 1 Wh, and 2 Wh were asked for");
+    let low = format!("{reach} leave 1 Wh, and 2 Wh were asked for; a start charge of 3 Wh would be enough");
     refused(&every, ["5", "2", "2"], "6 7\n0 -\n", &low);
-    let dry = format!("{reach} run the store dry in frame 2");
+    let dry = format!(
+        "{reach} run the store dry in frame 2, with 1 Wh missing there; a start charge of 3 Wh would be enough"
+    );
     refused(&every, ["9", "2", "2"], "6 7\n0 2\n9 -\n", &dry);
     // One that is larger than any may be is no advice.
-    let dry = format!("{reach} run the store dry in frame 3");
+    let dry = format!("{reach} run the store dry in frame 3, with 400000 Wh missing there");
     let below = ["999999999"; 2];
     refused(&plans, [below[0], below[1], "0"], &format!("{all}0 463529088\n"), &dry);
-    // The needed capacity goes by unlimited storage, where frame 3 has enough.
-    let general = format!("{reach} run the store dry, or leave less than the end charge");
-    refused(
-        &["needed -"],
-        ["5", most, "0"],
-        &format!("{all}0 463300000\n0 300000\n"),
-        &general,
-    );
+    // The needed capacity goes by unlimited storage, where frame 3 has enough; the largest capacity loses all of frame 1.
+    let needed = ["needed -"];
+    let dry = |frame, missing| format!("{reach} run the store dry in frame {frame}, with {missing} Wh missing there");
+    let frames = format!("{all}0 463300000\n0 300000\n");
+    refused(&needed, ["5", most, "0"], &frames, &dry(4, 70911));
+    refused(&plans, [most, most, "0"], &frames, &dry(3, 170911));
+    let frames = format!("{all}0 463300000\n0 100000\n");
+    let enough = format!("{}; a start charge of 999870911 Wh would be enough", dry(4, 70911));
+    refused(&needed, ["5", "999800000", "0"], &frames, &enough);
+    // A start charge that is larger than any may be is no advice either.
+    let frames = format!("{all}0 463300000\n");
+    let low = |end| format!("{reach} leave 129089 Wh, and {end} Wh were asked for");
+    let enough = format!("{}; a start charge of 999970911 Wh would be enough", low("200000"));
+    refused(&needed, ["5", "999900000", "200000"], &frames, &enough);
+    refused(&needed, ["5", "999900000", "300000"], &frames, &low("300000"));
+    // What is named is accepted, and one less is not.
+    let request = format!("capacity 5\nstart 5\nend 200000\nharvest least\n{frames}");
+    for (start, status) in [("999970911", 0), ("999970910", 1)] {
+        let ran = folder.run_with(&["needed", "-", "--start", start], request.as_bytes());
+        assert_eq!(ran.status, Some(status), "{}", ran.err);
+    }
 }
 
 #[test]
 fn figures_given_as_options_replace_those_of_the_request() {
-    let folder = folder_of_the_day();
+    let folder = folder_of_each_form();
     let budgets = |arguments: &[&str]| {
         let ran = folder.run(arguments);
         assert_eq!(ran.status, Some(0), "{}", ran.err);
@@ -452,7 +470,7 @@ fn figures_given_as_options_replace_those_of_the_request() {
 
 #[test]
 fn the_needed_capacity() {
-    let folder = folder_of_the_day();
+    let folder = folder_of_each_form();
     assert_done(&folder.run(&["needed", "day.txt"]), "needed capacity 6 Wh\n");
     assert_done(
         &folder.run(&["needed", "day.words", "--start", "7"]),
@@ -466,7 +484,7 @@ fn the_needed_capacity() {
 
 #[test]
 fn a_trace_has_its_losses_and_its_verdict() {
-    let folder = folder_of_the_day();
+    let folder = folder_of_each_form();
     for (budgets, capacity, charges, losses, words) in [
         (
             "4 4 4 4 2 2",
@@ -518,7 +536,7 @@ fn a_trace_has_its_losses_and_its_verdict() {
 
 #[test]
 fn budgets_are_graded() {
-    let folder = folder_of_the_day();
+    let folder = folder_of_each_form();
     let worth = "worth 320 480 100 by house curves 0, 1 and 2\n";
     assert_done(&folder.run_with(&["grade", "-"], b"4 3 3\n2 4 4"), worth);
     assert_done(&folder.run_with(&["grade", "-"], CSV.as_bytes()), worth);
@@ -529,7 +547,7 @@ fn budgets_are_graded() {
 
 #[test]
 fn a_word_file_and_its_text() {
-    let folder = folder_of_the_day();
+    let folder = folder_of_each_form();
     assert_done(&folder.run(&["words", "day.txt", "made.words"]), "");
     assert_eq!(folder.read("made.words"), day_words());
     assert_eq!(folder.run(&["words", "day.txt"]).out, day_words());
@@ -661,10 +679,11 @@ fn every_refusal_of_a_request() {
 
 #[test]
 fn budgets_of_another_length_and_malformed_files_are_refused() {
-    let folder = folder_of_the_day();
+    let folder = folder_of_each_form();
     let short = folder.run_with(&["trace", "day.txt", "-"], b"1 2 3 4 5");
     assert_refused(&short, "refused 7 0");
-    assert!(short.err.ends_with("; 5 budgets for 6 frames\n"), "{}", short.err);
+    let told = "gomzhiva: refused 7 0: a budget for each frame is expected, found 5 budgets for 6 frames\n";
+    assert_eq!(short.err, told);
     let words = folder.run_with(&["grade", "-"], &day_words());
     let expected = "standard input: a text in UTF-8 is expected, found a byte 0\n";
     assert_eq!((words.status, words.err.as_str()), (Some(2), expected));
@@ -734,7 +753,7 @@ fn texts_that_are_no_request_name_their_place() {
 
 #[test]
 fn bad_usage_is_told_on_standard_error() {
-    let folder = folder_of_the_day();
+    let folder = folder_of_each_form();
     for arguments in [
         &[][..],
         &["plane"],
@@ -746,6 +765,7 @@ fn bad_usage_is_told_on_standard_error() {
         &["plan", "day.txt", "--capacity", ""],
         &["plan", "day.txt", "--listing", "--csv"],
         &["plan", "day.txt", "--listing", "--chart", "x.svg"],
+        &["plan", "day.txt", "--listing", "--without-leasts"],
         &["trace", "day.txt"],
         &["trace", "-", "-"],
         &["trace", "/dev/stdin", "-"],
@@ -758,6 +778,9 @@ fn bad_usage_is_told_on_standard_error() {
         &["shift", "record", "1", "-1", "--journal", "journal"],
         &["shift", "start", "day.txt", "--journal", "-"],
         &["shift", "show", "--journal", "-"],
+        &["shift", "plan", "--journal", "-", "--without-leasts"],
+        &["shift", "show", "--journal", "journal", "--without-leasts"],
+        &["needed", "day.txt", "--without-leasts"],
     ] {
         let ran = folder.run(arguments);
         assert_eq!((ran.status, ran.text().as_str()), (Some(2), ""), "{arguments:?}");
@@ -768,7 +791,7 @@ fn bad_usage_is_told_on_standard_error() {
 
 #[test]
 fn an_output_is_none_of_the_inputs() {
-    let folder = folder_of_the_day();
+    let folder = folder_of_each_form();
     folder.write("budgets", "4 3 3 2 4 4");
     fs::hard_link(folder.file("day.txt"), folder.file("link.txt")).expect("a link");
     let outputs: [(&[&str], &str); 6] = [
@@ -816,7 +839,7 @@ fn not_an_output(name: &str) -> String {
 
 #[test]
 fn budgets_that_are_not_feasible_are_told_so_in_every_form() {
-    let folder = folder_of_the_day();
+    let folder = folder_of_each_form();
     let trace = |more: &[&str]| folder.run_with(&[&["trace", "day.txt", "-"], more].concat(), b"4 4 4 4 2 2");
     let warning = "gomzhiva: Not feasible: the charge after frame 4 is below zero.\n";
     for more in [&["--csv"][..], &["--chart", "-"], &["--csv", "--chart", "out.svg"]] {
@@ -831,28 +854,13 @@ fn budgets_that_are_not_feasible_are_told_so_in_every_form() {
 #[test]
 fn every_command_has_help_with_an_example() {
     let folder = Folder::new();
-    let commands: [&[&str]; 13] = [
-        &[],
-        &["plan"],
-        &["needed"],
-        &["trace"],
-        &["grade"],
-        &["words"],
-        &["text"],
-        &["shift"],
-        &["shift", "start"],
-        &["shift", "record"],
-        &["shift", "plan"],
-        &["shift", "show"],
-        &["shift", "chart"],
-    ];
+    let commands = folder.commands("");
+    assert_eq!(commands.len(), 15, "{commands:?}");
     for command in commands {
-        let ran = folder.run(&[command, &["--help"][..]].concat());
-        assert_eq!((ran.status, ran.err.as_str()), (Some(0), ""), "{command:?}");
-        let text = ran.text();
+        let text = folder.help(&command);
         let example = text.split("Example").nth(1).unwrap_or_default();
-        let named = format!("gomzhiva {}", command.join(" "));
-        assert!(example.contains(named.trim_end()), "{command:?}: {text}");
+        let named = format!("gomzhiva {command}");
+        assert!(example.contains(named.trim_end()), "{command}: {text}");
     }
     assert_done(
         &folder.run(&["--version"]),
@@ -862,7 +870,7 @@ fn every_command_has_help_with_an_example() {
 
 #[test]
 fn pictures_are_drawn_into_files_and_on_standard_output() {
-    let folder = folder_of_the_day();
+    let folder = folder_of_each_form();
     let whole = |svg: &[u8]| svg.starts_with(b"<svg ") && svg.ends_with(b"</svg>\n");
     let plan = folder.run(&["plan", "day.txt", "--chart", "plan.svg"]);
     assert_eq!(plan.status, Some(0));

@@ -10,9 +10,8 @@ use std::os::unix::net::UnixStream;
 use std::process::{Command, Stdio};
 
 /// Document 01's request, budgets, and a shift's journal.
-fn folder_of_the_day() -> Folder {
-    let folder = Folder::new();
-    folder.write("day.txt", DAY);
+fn folder_of_a_shift() -> Folder {
+    let folder = Folder::of_the_day();
     folder.write("budgets", "4 3 3 2 4 4");
     assert_eq!(
         folder
@@ -31,9 +30,10 @@ fn assert_failed(ran: &Ran, message: &str) {
 }
 
 /// Every command that prints.
-const PRINTING: [&[&str]; 15] = [
+const PRINTING: [&[&str]; 20] = [
     &["plan", "day.txt"],
     &["plan", "day.txt", "--csv"],
+    &["plan", "day.txt", "--without-leasts"],
     &["plan", "day.txt", "--listing"],
     &["plan", "day.txt", "--chart", "-"],
     &["needed", "day.txt"],
@@ -43,8 +43,12 @@ const PRINTING: [&[&str]; 15] = [
     &["words", "day.txt"],
     &["text", "day.txt"],
     &["shift", "plan", "--journal", "journal"],
+    &["shift", "plan", "--csv", "--journal", "journal"],
+    &["shift", "plan", "--chart", "-", "--journal", "journal"],
     &["shift", "show", "--journal", "journal"],
     &["shift", "chart", "--journal", "journal"],
+    &["completions", "zsh"],
+    &["man"],
     &["--help"],
     &["--version"],
 ];
@@ -65,7 +69,7 @@ fn unread(folder: &Folder, arguments: &[&str]) -> Ran {
 
 #[test]
 fn an_output_that_is_closed_full_or_unread() {
-    let folder = folder_of_the_day();
+    let folder = folder_of_a_shift();
     for arguments in PRINTING {
         let closed = redirected(&folder, arguments, ">&-");
         assert_failed(&closed, "standard output: Bad file descriptor");
@@ -78,13 +82,13 @@ fn an_output_that_is_closed_full_or_unread() {
     let refused = redirected(&folder, &["plan", "day.txt", "--capacity", "1"], ">/dev/full");
     assert_failed(
         &refused,
-        "refused 4 0: the start charge is above the capacity\ngomzhiva: standard output: No space left on device",
+        "refused 4 0: the start charge is 2 Wh, above the capacity of 1 Wh\ngomzhiva: standard output: No space left on device",
     );
 }
 
 #[test]
 fn a_call_that_is_done_is_told_to_be_done() {
-    let folder = folder_of_the_day();
+    let folder = folder_of_a_shift();
     let record = redirected(
         &folder,
         &["shift", "record", "1", "3", "--journal", "journal"],
@@ -103,7 +107,7 @@ fn a_call_that_is_done_is_told_to_be_done() {
 
 #[test]
 fn an_input_that_is_missing_closed_or_a_directory() {
-    let folder = folder_of_the_day();
+    let folder = folder_of_a_shift();
     fs::create_dir(folder.file("directory")).expect("a directory");
     let reading: [&[&str]; 8] = [
         &["plan"],
@@ -145,12 +149,16 @@ fn writing(folder: &Folder) -> Vec<(Vec<&'static str>, Vec<u8>)> {
             vec!["shift", "chart", "out", "--journal", "journal"],
             picture(&["shift", "chart", "--journal", "journal"]),
         ),
+        (
+            vec!["shift", "plan", "--chart", "out", "--journal", "journal"],
+            picture(&["shift", "plan", "--chart", "-", "--journal", "journal"]),
+        ),
     ]
 }
 
 #[test]
 fn an_output_file_is_whole_or_as_it_was() {
-    let folder = folder_of_the_day();
+    let folder = folder_of_a_shift();
     let faults = folder.faults();
     let names = folder.names();
     for (arguments, whole) in writing(&folder) {
@@ -180,7 +188,7 @@ fn an_output_file_is_whole_or_as_it_was() {
 
 #[test]
 fn a_limit_on_the_size_of_files_is_a_failed_write() {
-    let folder = folder_of_the_day();
+    let folder = folder_of_a_shift();
     let (names, journal) = (folder.names(), folder.read("journal"));
     for (command, message) in [
         ("words day.txt out", "out: File too large"),
@@ -196,7 +204,7 @@ fn a_limit_on_the_size_of_files_is_a_failed_write() {
 
 #[test]
 fn outputs_that_cannot_be_written() {
-    let folder = folder_of_the_day();
+    let folder = folder_of_a_shift();
     fs::create_dir(folder.file("directory")).expect("a directory");
     let words = |output: &str| folder.run(&["words", "day.txt", output]);
     assert_failed(&words("none/out"), "none/out: No such file or directory");
@@ -221,7 +229,7 @@ fn outputs_that_cannot_be_written() {
 
 #[test]
 fn links_permissions_and_devices_stay() {
-    let folder = folder_of_the_day();
+    let folder = folder_of_a_shift();
     folder.write("out", "older");
     folder.permit("out", 0o640);
     symlink("out", folder.file("link")).expect("a link");
@@ -249,7 +257,7 @@ fn links_permissions_and_devices_stay() {
 #[test]
 fn a_replaced_file_keeps_its_owner() {
     const SOMEBODY: u32 = 4711;
-    let folder = folder_of_the_day();
+    let folder = folder_of_a_shift();
     folder.write("out", "older");
     // Only root can give files away; for everybody else there is nothing to keep.
     let owner = format!("{SOMEBODY}:{SOMEBODY}");
@@ -265,7 +273,7 @@ fn a_replaced_file_keeps_its_owner() {
 
 #[test]
 fn a_read_that_fails_later_is_a_failure_too() {
-    let folder = folder_of_the_day();
+    let folder = folder_of_a_shift();
     let mut command = folder.command(&["plan", "-"]);
     command
         .env("LD_PRELOAD", folder.faults())

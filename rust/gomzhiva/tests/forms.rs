@@ -68,6 +68,9 @@ struct Dress {
     capitals: bool,
     comments: bool,
     surplus: usize,
+    /// The number of the first frame, and its quarter hour of the day where there are clock times and not words for people.
+    first: u32,
+    quarter: Option<usize>,
     /// How a bound that a frame does not have is written: as a dash, as nothing or as its number, by the frame's number.
     absent: [Absent; 3],
 }
@@ -92,10 +95,11 @@ fn dresses() -> impl Strategy<Value = Dress> {
         select(vec!["\n", "\r\n", "\r"]),
         any::<[bool; 5]>(),
         0..3usize,
+        (0..1000u32, proptest::option::of(0..96usize)),
         [absent(), absent(), absent()],
     )
         .prop_map(
-            |(order, (mut columns, width), separator, line_end, choices, surplus, absent)| {
+            |(order, (mut columns, width), separator, line_end, choices, surplus, (first, quarter), absent)| {
                 let [ends, mark, quoted, capitals, comments] = choices;
                 columns.truncate(width);
                 if !columns.contains(&"harvest") {
@@ -112,6 +116,8 @@ fn dresses() -> impl Strategy<Value = Dress> {
                     capitals,
                     comments,
                     surplus,
+                    first,
+                    quarter,
                     absent,
                 }
             },
@@ -180,16 +186,37 @@ impl Dress {
 
     /// A frame's cell: cells that are not read may hold anything, blanks too where these do not part them.
     fn cell(&self, column: &str, i: usize, lists: &Lists) -> String {
-        let parted_by_blanks = self.separator.trim().is_empty();
+        let is_one_word = self.separator.trim().is_empty() && !self.quoted;
+        let words = if is_one_word { "noon" } else { "about noon" };
         match column {
             "harvest" => lists.harvest[i].to_string(),
             "least" => self.bound(i, lists.least[i], 0),
             "most" => self.bound(i, lists.most[i], NO_UPPER_END),
             "budget" => i.to_string(),
-            "time" if parted_by_blanks && !self.quoted => format!("{:02}:00", i % 24),
-            "time" => format!("2026-06-21 {:02}:00", i % 24),
+            "frame" => (self.first + i as u32).to_string(),
+            "time" => self.time(i).unwrap_or_else(|| words.to_string()),
             _ => "-3".to_string(),
         }
+    }
+
+    /// The clock time of a frame, if it has one.
+    fn time(&self, i: usize) -> Option<String> {
+        let quarter = (self.quarter? + i) % 96;
+        Some(format!("{:02}:{:02}", quarter / 4, quarter % 4 * 15))
+    }
+
+    /// The request as `text` prints it from this dress: with the clock times that it shows.
+    fn text_of(&self, request: &Request) -> String {
+        let is_timed = self.columns.contains(&"time") && self.quarter.is_some() && request.lists.count() > 0;
+        let text = request.text();
+        if !is_timed {
+            return text;
+        }
+        let (figures, table) = text.split_once("harvest").expect("a table");
+        let rows = table.lines().skip(1).enumerate();
+        let row = |(i, row): (usize, &str)| format!("{} {row}\n", self.time(i).unwrap_or_default());
+        let names = table.lines().next().unwrap_or_default();
+        format!("{figures}time harvest{names}\n{}", rows.map(row).collect::<String>())
     }
 
     /// A bound's cell: one that a frame does not have in each way that there is.
@@ -219,11 +246,12 @@ impl Dress {
 fn a_request_is_the_same_in_every_dress() {
     check(400, (requests(), dresses()), |(request, dress)| {
         let folder = Folder::new();
-        let written = dress.of(&request).write(&request);
+        let dress = dress.of(&request);
+        let written = dress.write(&request);
         let text = folder.run_with(&["text", "-"], written.as_bytes());
         prop_assert_eq!(
             (text.status, text.text(), text.err),
-            (Some(0), request.text(), String::new())
+            (Some(0), dress.text_of(&request), String::new())
         );
         let words = folder.run_with(&["words", "-"], written.as_bytes());
         prop_assert_eq!(words.status, Some(i32::from(request.words().is_err())));
@@ -366,8 +394,13 @@ fn a_changed_text_is_another_request_or_a_fault_with_its_place() {
             Some(0) => {
                 prop_assert_eq!(&folder.run_with(&["text", "-"], &ran.out).out, &ran.out);
                 let text = ran.text();
-                let (_, table) = text.split_once("\nharvest").unwrap_or_default();
-                let rows: Vec<&str> = table.lines().skip(1).collect();
+                let (figures, table) = text.split_once("harvest").unwrap_or_default();
+                let is_timed = figures.ends_with("time ");
+                let row = |row: &str| match row.split_once(' ') {
+                    Some((_, row)) if is_timed => row.to_string(),
+                    _ => row.to_string(),
+                };
+                let rows: Vec<String> = table.lines().skip(1).map(row).collect();
                 for column in 0..3 {
                     let mut known = numbers(&given).into_iter();
                     let cells = rows.iter().filter_map(|row| row.split(' ').nth(column));

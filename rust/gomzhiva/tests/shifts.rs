@@ -2,7 +2,10 @@
 
 mod common;
 
-use common::{bounded_text, budget_table, column, recorded_table, request_text, standing, Bounds, Folder, Ran, DAY};
+use common::{
+    bounded_text, budget_table, column, doubt, figures_now, leasts_fail, next, on, recorded_table, request_text, short,
+    standing, Bounds, Folder, Ran, DAY, ON_JOURNAL,
+};
 use energy::{Energy, Figures, Frames, Rest, Shift, MAX_FRAMES, NO_UPPER_END};
 use evidence::lists::Lists;
 use evidence::random::{seed, Random};
@@ -20,9 +23,6 @@ use std::time::Duration;
 const SHOW: [&str; 5] = ["shift", "show", "--csv", "--journal", "journal"];
 const PLAN: [&str; 4] = ["shift", "plan", "--journal", "journal"];
 const CHART: [&str; 4] = ["shift", "chart", "--journal", "journal"];
-const RECORD: [&str; 6] = ["shift", "record", "1", "1", "--journal", "journal"];
-/// Every command on a journal.
-const COMMANDS: [&[&str]; 4] = [&SHOW, &PLAN, &CHART, &RECORD];
 
 fn start(folder: &Folder, request: &str) -> Ran {
     folder.run_with(&["shift", "start", "-", "--journal", "journal"], request.as_bytes())
@@ -130,7 +130,11 @@ fn a_shift_keeps_its_bounds_from_its_start_to_its_end() {
     assert_eq!(start(&folder, BOUNDED).status, Some(0));
     let line = "start capacity 5 start 2 end 2 harvest 6 4 0 0 5 5 least - - - 3 - - most 3 - 1 - - 4";
     assert_eq!(calls(&folder), [line]);
+    let nothing = "frame,harvest,least,most,use,charge,loss\n";
+    assert_eq!(told(folder.run(&SHOW)), done(nothing), "no frame is recorded");
     assert_eq!(record(&folder, 1, 3).status, Some(0));
+    let one = format!("{nothing}1,1,,3,3,0,0\n");
+    assert_eq!(told(folder.run(&SHOW)), done(&one), "no frame with a least is recorded");
     let plan = "\
 frame  harvest  least  most  budget  charge  loss
     2        4      -     -       1       3     0
@@ -168,15 +172,17 @@ frame  harvest  least  most  use  charge  loss
     let text = folder.run_with(&[&["text", "-"], &figures[..]].concat(), rows.as_bytes());
     let hindsight = "capacity 5\nstart 2\nend 2\nharvest least most\n1 - 3\n5 - -\n0 - 1\n5 3 -\n";
     assert_eq!(told(text), done(hindsight));
-    // No frame that is left has a least.
+    // No frame that is left has a least, and the column stays.
     let rest = "\
-frame  harvest  most  budget  charge  loss
-    5        5     -       9       1     0
-    6        5     4       4       2     0
+frame  harvest  least  most  budget  charge  loss
+    5        5      -     -       9       1     0
+    6        5      -     4       4       2     0
 
 2 frames left: 10 Wh expected, 13 Wh budgeted (mean 6.5), 0 Wh lost. The charge goes from 5 to 2 Wh.
 ";
     assert_eq!(told(folder.run(&PLAN)), done(rest));
+    let rest = "frame,harvest,least,most,budget,charge,loss\n5,5,,,9,1,0\n6,5,,4,4,2,0\n";
+    assert_eq!(told(folder.run(&[&PLAN[..], &["--csv"]].concat())), done(rest));
 }
 
 #[test]
@@ -210,11 +216,14 @@ fn a_rest_in_which_nothing_is_feasible_is_short_by_what_the_end_charge_misses() 
          with nothing used, the end charge of 2 Wh is reached."
     );
     let csv = "frame,harvest,least,most,budget,charge,loss\n3,0,,1,0,0,0\n4,0,3,,0,0,0\n5,5,,,0,5,0\n6,5,,4,0,5,5\n";
-    let spreadsheet = (Some(0), csv.to_string(), format!("gomzhiva: {reached}\n"));
+    let leasts = "As budgets the leasts run the store dry in frame 4, with 3 Wh missing there; \
+                  `--without-leasts` plans what can be done without them.";
+    let warnings = format!("gomzhiva: {reached}\ngomzhiva: {leasts}\n");
+    let spreadsheet = (Some(0), csv.to_string(), warnings);
     assert_eq!(told(folder.run(&[&PLAN[..], &["--csv"]].concat())), spreadsheet);
     let words = told(folder.run(&PLAN));
     assert!(
-        words.1.ends_with(&format!("\n\n{reached}\n")) && words.2.is_empty(),
+        words.1.ends_with(&format!("\n\n{reached}\n{leasts}\n")) && words.2.is_empty(),
         "{words:?}"
     );
     let picture = folder.run(&CHART);
@@ -235,7 +244,8 @@ fn a_rest_in_which_nothing_is_feasible_is_short_by_what_the_end_charge_misses() 
         "Short: with nothing used in the 1 frame left, the end charge of 7 Wh is still missed by 2 Wh, {zeros}."
     );
     let table = "frame  harvest  least  budget  charge  loss\n    2        1      3       0       5     0\n";
-    assert_eq!(told(folder.run(&PLAN)), done(&format!("{table}\n{missed}\n")));
+    let leasts = "As budgets the leasts leave 2 Wh, and 7 Wh were asked for.";
+    assert_eq!(told(folder.run(&PLAN)), done(&format!("{table}\n{missed}\n{leasts}\n")));
     assert_eq!(folder.run(&CHART).err, "gomzhiva: the rest is short by 2 Wh\n");
 }
 
@@ -390,18 +400,35 @@ fn calls(folder: &Folder) -> Vec<String> {
 
 /// The plan of the rest as a table, from the logbook's budgets.
 fn rest_table(shift: &Shift, forecast: &Lists, budgets: &[u32]) -> String {
+    budget_table(shift.now.recorded, figures_now(shift), forecast.frames(), budgets)
+}
+
+/// A table for people as the one for a spreadsheet: a cell without a bound is empty there.
+fn as_csv(table: &str) -> String {
+    let cell = |cell: &str| if cell == "-" { String::new() } else { cell.to_string() };
+    let line = |line: &str| line.split_whitespace().map(cell).collect::<Vec<_>>().join(",") + "\n";
+    table.lines().map(line).collect()
+}
+
+/// What stands under the table of a rest that is short, a sentence a line: what the end charge misses, and how the leasts
+/// fail if some frame that is left has one.
+fn short_words(shift: &Shift, forecast: &Lists, missing: u64) -> String {
     let next = shift.now.recorded as usize;
-    let figures = Figures {
-        capacity: shift.terms.capacity,
-        start: shift.now.charge,
-        end: shift.terms.end,
-    };
-    let left = Frames {
+    let rest = Frames {
         harvest: &forecast.harvest[next..],
         least: &forecast.least[next..],
         most: &forecast.most[next..],
     };
-    budget_table(shift.now.recorded, figures, left, &budgets[next..])
+    let short = short(shift, missing);
+    if rest.least.iter().all(|&least| least == 0) {
+        return short;
+    }
+    let advice = match missing {
+        0 => "; `--without-leasts` plans what can be done without them",
+        _ => "",
+    };
+    let leasts = leasts_fail(next, figures_now(shift), rest);
+    format!("{short}As budgets the leasts {leasts}{advice}.\n")
 }
 
 /// A forecast, in half of all cases with bounds in some frames.
@@ -410,8 +437,8 @@ fn any_forecast(random: &mut Random) -> Lists {
     let mut forecast = Lists::unbounded(random.list(frames, 9));
     if random.one_in(2) {
         for frame in 0..frames {
-            if random.one_in(3) {
-                forecast.least[frame] = random.up_to_u32(4);
+            if random.one_in(2) {
+                forecast.least[frame] = random.up_to_u32(5);
             }
             if random.one_in(3) {
                 forecast.most[frame] = forecast.least[frame] + random.up_to_u32(4);
@@ -435,12 +462,38 @@ fn bound_words(frames: Frames) -> String {
     given.map(words).collect()
 }
 
-/// How often a rest was short of something and of nothing, and how often a plan had bounds.
+/// How often a rest was short of something and of nothing, how often its leasts ran the store dry and left too little, how
+/// often a plan had bounds, and which doubts there were.
 #[derive(Default, Debug)]
 struct Seen {
     missing: u32,
     nothing: u32,
+    dry: u32,
+    low: u32,
     bounded: u32,
+    below: u32,
+    above: u32,
+    far: u32,
+    surely: u32,
+}
+
+impl Seen {
+    fn doubt(&mut self, doubt: &str) {
+        let kinds = [
+            ("is below the least", &mut self.below),
+            ("is above the most", &mut self.above),
+            ("is more than twice the budget", &mut self.far),
+            ("", &mut self.surely),
+        ];
+        let seen = kinds.into_iter().find(|(words, _)| doubt.contains(words));
+        *seen.expect("a kind").1 += 1;
+    }
+
+    fn everything(&self) -> bool {
+        let shorts = [self.missing, self.nothing, self.dry, self.low, self.bounded];
+        let doubts = [self.below, self.above, self.far, self.surely];
+        shorts.into_iter().chain(doubts).all(|seen| seen > 0)
+    }
 }
 
 /// A shift's calls, refused ones among them: each is answered as the logbook says, and the journal holds the accepted ones.
@@ -463,7 +516,11 @@ fn assert_logbooks(random: &mut Random, seen: &mut Seen) {
     let mut logbook = Logbook::open(figures, frames);
     assert_eq!(
         told(started),
-        done(&format!("Started. {}", standing(&logbook.record_now())))
+        done(&format!(
+            "Started. {}{}",
+            standing(&logbook.record_now()),
+            next(&logbook, forecast.frames())
+        ))
     );
     let line = column(&forecast.harvest).trim_end().replace('\n', " ");
     let mut accepted = vec![format!(
@@ -473,26 +530,35 @@ fn assert_logbooks(random: &mut Random, seen: &mut Seen) {
         bound_words(forecast.frames())
     )];
     let mut records = vec![logbook.record_now()];
+    // A dark day is one on which the leasts are out of reach.
+    let sun = *random.pick(&[12, 3]);
     for _ in 0..2 * frames + 2 {
         let harvest = if random.one_in(8) {
             400_001
         } else {
-            random.up_to_u32(12)
+            random.up_to_u32(sun)
         };
         let shift_before = logbook.record_now();
         let used = random.up_to_u32(shift_before.now.charge + harvest.min(12) + 2);
         let before = folder.read("journal");
+        let logbook_before = logbook.clone();
         let recorded = record(&folder, harvest, used);
         match logbook.record(harvest, used) {
             Ok(()) => {
                 let shift = logbook.record_now();
-                let answer = format!("Recorded frame {}. {}", shift.now.recorded, standing(&shift));
-                assert_eq!(told(recorded), done(&answer));
+                let next = next(&logbook, forecast.frames());
+                let answer = format!("Recorded frame {}. {}{next}", shift.now.recorded, standing(&shift));
+                let doubt = doubt(&logbook_before, forecast.frames(), used);
+                seen.doubt(&doubt);
+                assert_eq!(told(recorded), (Some(0), answer, doubt));
                 accepted.push(format!("record {harvest} {used}"));
                 records.push(shift);
             }
             Err(refusal) => {
                 assert_eq!((recorded.status, recorded.text()), (Some(1), format!("{refusal}\n")));
+                let sentence = recorded.err.strip_prefix(&format!("gomzhiva: {refusal}: "));
+                let lines = sentence.map(|sentence| sentence.lines().count());
+                assert_eq!(lines, Some(1), "nothing else is told: {}", recorded.err);
                 assert_eq!(folder.read("journal"), before, "a refused call is not written");
             }
         }
@@ -502,15 +568,22 @@ fn assert_logbooks(random: &mut Random, seen: &mut Seen) {
             Ok(rest) => {
                 let table = rest_table(&logbook.record_now(), &forecast, &budgets);
                 assert_eq!((plan.status, plan.text()), (Some(0), table));
-                let words = folder.run(&PLAN).text();
-                let last = words.lines().last().expect("words");
-                let (said, warning) = match rest {
-                    Rest::Planned => (" left: ".to_string(), String::new()),
-                    Rest::Short { missing: 0 } => ("is reached.".to_string(), format!("gomzhiva: {last}\n")),
-                    Rest::Short { missing } => (format!("missed by {missing} Wh"), format!("gomzhiva: {last}\n")),
+                let text = folder.run(&PLAN).text();
+                let (table, words) = text.split_once("\n\n").expect("words");
+                assert_eq!(as_csv(table), plan.text(), "people have the same columns");
+                let short = match rest {
+                    Rest::Planned => String::new(),
+                    Rest::Short { missing } => short_words(&logbook.record_now(), &forecast, missing),
                 };
-                assert!(last.contains(&said), "{words}");
-                assert_eq!(plan.err, warning, "a short rest is told beside its zeros");
+                if rest == Rest::Planned {
+                    assert!(words.contains(" left: ") && words.lines().count() == 1, "{words}");
+                } else {
+                    assert_eq!(words, short);
+                }
+                let warnings: String = short.lines().map(|line| format!("gomzhiva: {line}\n")).collect();
+                assert_eq!(plan.err, warnings, "a short rest is told beside its zeros");
+                seen.dry += u32::from(short.contains("run the store dry"));
+                seen.low += u32::from(short.contains("the leasts leave"));
                 match rest {
                     Rest::Planned => seen.bounded += u32::from(!Bounds::of(forecast.frames()).names(" ").is_empty()),
                     Rest::Short { missing: 0 } => seen.nothing += 1,
@@ -525,6 +598,9 @@ fn assert_logbooks(random: &mut Random, seen: &mut Seen) {
         assert_eq!(calls(&folder), accepted);
         let shown = folder.run(&SHOW);
         let rows = recorded_table(&records, forecast.frames());
+        let text = folder.run(&["shift", "show", "--journal", "journal"]).text();
+        let (table, _) = text.split_once("\n\n").expect("words");
+        assert_eq!(as_csv(table), rows, "people have the same columns");
         assert_eq!((shown.status, shown.text()), (Some(0), rows));
         let shift = logbook.record_now();
         let missed = shift.now.recorded == shift.terms.frames && shift.now.charge < shift.terms.end;
@@ -537,7 +613,7 @@ fn assert_logbooks(random: &mut Random, seen: &mut Seen) {
 fn every_call_is_answered_as_the_logbook_says() {
     let mut seen = Seen::default();
     (0..90).for_each(|case| assert_logbooks(&mut Random::of_case(seed(), case), &mut seen));
-    assert!(seen.missing > 0 && seen.nothing > 0 && seen.bounded > 0, "{seen:?}");
+    assert!(seen.everything(), "{seen:?}");
 }
 
 #[test]
@@ -613,8 +689,8 @@ fn a_last_line_that_lacks_only_its_end_counts() {
 fn assert_damaged(folder: &Folder, line: usize) {
     let before = folder.read("journal");
     let place = format!("journal:{line}:1: ");
-    for arguments in COMMANDS {
-        let ran = folder.run(arguments);
+    for command in ON_JOURNAL {
+        let ran = folder.run(&on(command, "journal"));
         assert_eq!((ran.status, ran.text().as_str()), (Some(2), ""), "{before:?}");
         assert!(
             ran.err.starts_with(&place) && ran.err.contains(" is expected, found "),
@@ -697,19 +773,11 @@ fn a_journal_of_a_longer_shift_than_there_may_be_is_refused() {
     let call = format!("start capacity 5 start 2 end 2 harvest{}", " 1".repeat(MAX_FRAMES + 1));
     folder.write("journal", sealed(&call));
     let before = folder.read("journal");
-    for arguments in COMMANDS {
-        let ran = folder.run(arguments);
-        assert_eq!(ran.status, Some(1), "{}", ran.err);
-        assert!(
-            ran.err.starts_with("gomzhiva: refused 2 0: there are more than "),
-            "{}",
-            ran.err
-        );
-        assert!(
-            ran.err.ends_with("; journal starts such a shift, and stays as it is\n"),
-            "{}",
-            ran.err
-        );
+    for command in ON_JOURNAL {
+        let ran = folder.run(&on(command, "journal"));
+        let refused = "gomzhiva: refused 2 0: there are 673 frames, above the limit of 672";
+        let told = format!("{refused}; journal starts such a shift, and stays as it is\n");
+        assert_eq!((ran.status, ran.err), (Some(1), told));
     }
     assert_eq!(folder.read("journal"), before);
     assert_eq!(folder.names(), ["journal"]);
@@ -725,13 +793,13 @@ fn a_journal_whose_bounds_are_refused_says_which_they_are() {
         ),
         (
             "start capacity 2 start 0 end 0 harvest 6 0 least - 5",
-            "refused 11 0: the leasts are out of reach: as budgets they run the store dry in frame 2; \
-             a capacity of 5 Wh would be enough",
+            "refused 11 0: the leasts are out of reach: as budgets they run the store dry in frame 2, \
+             with 3 Wh missing there; a capacity of 5 Wh would be enough",
         ),
     ] {
         folder.write("journal", sealed(start));
-        for arguments in COMMANDS {
-            let ran = folder.run(arguments);
+        for command in ON_JOURNAL {
+            let ran = folder.run(&on(command, "journal"));
             let told = format!("gomzhiva: {refused}; journal starts such a shift, and stays as it is\n");
             assert_eq!((ran.status, ran.err), (Some(1), told));
         }
@@ -763,27 +831,34 @@ fn what_is_no_journal_is_refused() {
     let zero = folder.run(&["shift", "show", "--journal", "/dev/zero"]);
     assert_eq!(zero.status, Some(2), "an endless file is no journal: {}", zero.err);
     fs::create_dir(folder.file("directory")).expect("a directory");
-    for (name, reason) in [("none", "No such file or directory"), ("directory", "Is a directory")] {
+    for (name, status, reason) in [
+        ("none", 3, "No such file or directory"),
+        (
+            "directory",
+            2,
+            "a regular file is expected as a journal, found a directory",
+        ),
+    ] {
         for command in [&["show"][..], &["plan"], &["chart"], &["record", "1", "1"]] {
             let ran = folder.run(&[&["shift"], command, &["--journal", name]].concat());
             assert_eq!(
                 told(ran),
-                (Some(3), String::new(), format!("gomzhiva: {name}: {reason}\n"))
+                (Some(status), String::new(), format!("gomzhiva: {name}: {reason}\n"))
             );
         }
     }
     assert_eq!(folder.names(), ["directory", "journal"]);
 }
 
+/// What a start is told of a journal that is there.
+const THERE: &str = "gomzhiva: journal: File exists; nothing is started, since a shift needs a new journal\n";
+
 #[test]
 fn a_journal_that_is_there_is_not_started_again() {
     let folder = folder_of_a_shift();
     let before = folder.read("journal");
     let again = start(&folder, DAY);
-    assert_eq!(
-        told(again),
-        (Some(3), String::new(), "gomzhiva: journal: File exists\n".to_string())
-    );
+    assert_eq!(told(again), (Some(3), String::new(), THERE.to_string()));
     let missing = folder.run_with(&["shift", "start", "-", "--journal", "none/journal"], DAY.as_bytes());
     assert_eq!(missing.err, "gomzhiva: none/journal: No such file or directory\n");
     assert_eq!(
@@ -856,8 +931,7 @@ fn a_recording_that_cannot_be_cut_back_says_so() {
 
 #[test]
 fn a_file_system_without_links_has_journals_too() {
-    let folder = Folder::new();
-    folder.write("day.txt", DAY);
+    let folder = Folder::of_the_day();
     let faults = folder.faults();
     let start = || {
         let mut command = folder.command(&["shift", "start", "day.txt", "--journal", "journal"]);
@@ -865,7 +939,7 @@ fn a_file_system_without_links_has_journals_too() {
         Ran::from(command.stdin(Stdio::null()).output().expect("the program ends"))
     };
     assert_eq!(start().status, Some(0));
-    assert_eq!(start().err, "gomzhiva: journal: File exists\n");
+    assert_eq!(start().err, THERE);
     assert_eq!(folder.names(), ["day.txt", "faults.so", "journal"]);
     assert_eq!(record(&folder, 1, 3).status, Some(0));
 }
@@ -993,9 +1067,7 @@ fn of_several_starts_at_once_one_is_the_journals() {
         .map(|(end, _)| *end)
         .collect();
     assert_eq!(won.len(), 1, "{started:?}");
-    assert!(started
-        .iter()
-        .all(|(_, ran)| ran.status == Some(0) || ran.err == "gomzhiva: journal: File exists\n"));
+    assert!(started.iter().all(|(_, ran)| ran.status == Some(0) || ran.err == THERE));
     assert_eq!(
         calls(&folder),
         [format!("start capacity 9 start 9 end {} harvest 1", won[0])]

@@ -150,12 +150,12 @@ fn needed_name(picture: &Picture<'_>) -> &'static str {
 }
 
 fn recorded_name(picture: &Picture<'_>) -> String {
-    let number = |frame: usize| grouped(frame as i128);
-    let (last, next) = (number(picture.recorded), number(picture.recorded + 1));
-    if picture.recorded == picture.frames() {
-        format!("recorded up to frame {last}, the last")
+    let recorded = picture.recorded;
+    if recorded == picture.frames() {
+        format!("recorded up to frame {recorded}, the last")
     } else {
-        format!("recorded up to frame {last}, planned from frame {next}")
+        let next = picture.calendar.name(recorded);
+        format!("recorded up to frame {recorded}, planned from {next}")
     }
 }
 

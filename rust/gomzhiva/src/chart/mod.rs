@@ -1,12 +1,14 @@
 //! Draws a plan on a page: the charge above, harvest, losses and budgets below.
 
+mod clock;
 mod legend;
 mod marks;
 mod panel;
 mod scale;
 mod title;
 
-use crate::request::Bound;
+use crate::request::{Bound, Calendar};
+use clock::Clock;
 use legend::Legend;
 use panel::Panel;
 use plotters::coord::Shift;
@@ -31,6 +33,8 @@ type Drawn = Result<(), NotDrawn>;
 /// What a picture shows: one entry of each list for each frame.
 pub struct Picture<'a> {
     pub title: &'a str,
+    /// The numbers of the frames, and if it is known when they begin.
+    pub calendar: Calendar,
     pub capacity: u32,
     /// The needed capacity, of a running shift that of the frames not yet recorded; none where it has none.
     pub needed: Option<u64>,
@@ -64,6 +68,12 @@ pub fn svg(picture: &Picture<'_>) -> String {
 impl Picture<'_> {
     fn frames(&self) -> usize {
         self.harvest.len()
+    }
+
+    /// The axis of frames that begin at clock times.
+    fn clock(&self) -> Option<Clock> {
+        let times = self.calendar.times?;
+        Some(Clock::new(times, self.frames()))
     }
 
     fn is_overdrawn(&self) -> bool {
@@ -107,13 +117,14 @@ fn draw(page: &Page<'_>, picture: &Picture<'_>) -> Drawn {
     cut_row(&mut rest, SPACE_ROW);
     let area = cut_row(&mut rest, panels * 45 / 100);
     Panel::with_axes(page, &area, picture, energy_scale, left)?.draw_energy()?;
-    name_frame_axis(&rest.margin(0, 0, left, 0))
+    let name = picture.clock().map_or("frame (quarter hours)".into(), Clock::name);
+    name_frame_axis(&rest.margin(0, 0, left, 0), &name)
 }
 
-fn name_frame_axis(foot: &Page<'_>) -> Drawn {
+fn name_frame_axis(foot: &Page<'_>, name: &str) -> Drawn {
     let style = text_style(LETTER).pos(Pos::new(HPos::Center, VPos::Bottom));
     let middle = foot.dim_in_pixel().0 as i32 / 2;
-    foot.draw_text("frame (quarter hours)", &style, (middle, height(foot)))
+    foot.draw_text(name, &style, (middle, height(foot)))
 }
 
 /// Cuts a row off the top of the area.
@@ -143,8 +154,11 @@ mod tests {
     use super::*;
     use energy::{MAX_FRAMES, NO_UPPER_END};
 
+    const NUMBERS: Calendar = Calendar { before: 0, times: None };
+
     const PLAN: Picture<'static> = Picture {
         title: "plan",
+        calendar: NUMBERS,
         capacity: 5,
         needed: Some(6),
         start: 3,

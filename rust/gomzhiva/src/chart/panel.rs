@@ -32,10 +32,13 @@ impl<'p, 'a> Panel<'p, 'a> {
         watt_hours: Scale,
         left: i32,
     ) -> Result<Panel<'p, 'a>, NotDrawn> {
+        let (frames, clock) = (picture.frames(), picture.clock());
+        let along = clock.map_or_else(|| Scale::of_frames(frames), |clock| Scale::of_clock(frames, clock));
+        let label = |frame: &f64| clock.map_or_else(|| grouped(*frame as i128), |clock| clock.label(*frame));
         let mut chart = ChartBuilder::on(area)
             .set_label_area_size(LabelAreaPosition::Left, left)
             .set_label_area_size(LabelAreaPosition::Bottom, NUMBER_ROW)
-            .build_cartesian_2d(Scale::of_frames(picture.frames()), watt_hours)?;
+            .build_cartesian_2d(along, watt_hours)?;
         let plot = chart.plotting_area().clone();
         let panel = Panel { page, plot, picture };
         panel.shade_recorded()?;
@@ -45,7 +48,7 @@ impl<'p, 'a> Panel<'p, 'a> {
             .axis_style(BLACK.stroke_width(6))
             .label_style(text_style(LETTER))
             .set_all_tick_mark_size(30)
-            .x_label_formatter(&|frame| grouped(*frame as i128))
+            .x_label_formatter(&label)
             .y_label_formatter(&|watt_hours| grouped(*watt_hours as i128))
             .y_label_offset(LIFT)
             .y_desc("watt-hours")

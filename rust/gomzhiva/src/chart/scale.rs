@@ -1,5 +1,6 @@
 //! The scales of the axes: what they span and where their numbers stand.
 
+use super::clock::Clock;
 use super::{Picture, LETTER};
 use crate::request::Bound;
 use plotters::coord::ranged1d::{DefaultFormatting, KeyPointHint};
@@ -12,7 +13,7 @@ const FRAME_STEPS: [usize; 6] = [1, 2, 4, 8, 12, 24];
 /// The step of the longest requests, up to a week.
 const HALF_A_DAY: usize = 48;
 /// The characters for which the frame axis has room, two of them blank after each number.
-const FRAME_AXIS_CHARACTERS: usize = 110;
+pub const FRAME_AXIS_CHARACTERS: usize = 110;
 const MOST_WATT_HOUR_STEPS: f64 = 8.0;
 /// A line joins the charges where it makes the picture at most so many times as high.
 const REACH: f64 = 4.0;
@@ -33,6 +34,15 @@ impl Scale {
         Scale {
             range: 0.5..frames.max(1) as f64 + 0.5,
             ticks: numbers.map(|frame| frame as f64).collect(),
+        }
+    }
+
+    /// The same with marks at clock times.
+    pub fn of_clock(frames: usize, clock: Clock) -> Scale {
+        let ticks = clock.ticks();
+        Scale {
+            ticks,
+            ..Scale::of_frames(frames)
         }
     }
 

@@ -1,13 +1,10 @@
-//! Budgets with the charges and losses that they lead to, as a table and as a picture.
+//! Budgets with the charges and losses that they lead to.
 
-use super::write;
+use super::columns::frame_columns;
 use crate::chart::{svg, Picture};
-use crate::cli::ReportArguments;
 use crate::failure::Failure;
-use crate::files::{print, Place};
-use crate::report::{bound_columns, column, counted, frames, lost, mean, sum, Table};
-use crate::request::Request;
-use crate::streams::tell;
+use crate::report::{column, counted, lost, mean, sum, Table};
+use crate::request::{Bound, Request};
 use energy::{Energy, Figures, Linked, Verdict};
 
 /// A request's budgets, planned or supplied, and what the proved tracer says of them.
@@ -19,20 +16,13 @@ pub struct Budgets<'a> {
     pub verdict: Verdict,
 }
 
-/// What stands around the budgets, and the inputs that they were made of.
-pub struct Shown<'a> {
-    pub title: &'a str,
-    pub words: &'a str,
-    pub warnings: &'a [String],
-    pub inputs: &'a [&'a Place],
-}
-
 impl<'a> Budgets<'a> {
     pub fn trace(request: &'a Request, budgets: Vec<u32>) -> Result<Budgets<'a>, Failure> {
         let harvest = &request.frames.harvest;
         let mut charges = vec![0; harvest.len()];
         let mut losses = vec![0; harvest.len()];
-        let verdict = Linked.trace(request.figures, harvest, &budgets, &mut charges, &mut losses)?;
+        let verdict = Linked.trace(request.figures, harvest, &budgets, &mut charges, &mut losses);
+        let verdict = verdict.map_err(|refusal| request.refused_budgets(refusal, budgets.len()))?;
         Ok(Budgets {
             request,
             budgets,
@@ -42,13 +32,9 @@ impl<'a> Budgets<'a> {
         })
     }
 
-    /// The table of these frames, the first of which is the one after `before`.
-    pub fn table(&self, before: u32) -> Table<'static> {
-        let mut columns = vec![
-            ("frame", frames(before, self.budgets.len())),
-            ("harvest", column(&self.request.frames.harvest)),
-        ];
-        columns.extend(bound_columns(&self.request.frames));
+    /// The table of the frames, with columns for these bounds.
+    pub fn table(&self, bounds: &[Bound]) -> Table {
+        let mut columns = frame_columns(&self.request.frames, bounds);
         columns.extend([
             ("budget", column(&self.budgets)),
             ("charge", column(&self.charges)),
@@ -93,34 +79,38 @@ impl<'a> Budgets<'a> {
         self.charges.last().copied().unwrap_or_default()
     }
 
-    /// Shows table, CSV or picture as the arguments ask. The words close the table; where they have no place, the
-    /// warnings are told on standard error.
-    pub fn show(&self, report: &ReportArguments, shown: &Shown<'_>) -> Result<(), Failure> {
-        let only_picture = report.draws_on_standard_output();
-        if only_picture && report.table.csv {
-            let message = "gomzhiva: --csv and --chart - cannot both be standard output";
-            return Err(Failure::Fault(message.into()));
-        }
-        if let Some(place) = &report.chart {
-            write(place, shown.inputs, svg(&self.picture(shown.title)).as_bytes())?;
-        }
-        if report.table.csv {
-            print(&self.table(0).csv())?;
-        } else if !only_picture {
-            return print(&format!("{}\n{}\n", self.table(0).aligned(), shown.words));
-        }
-        for warning in shown.warnings {
-            tell(format!("gomzhiva: {warning}"));
-        }
-        Ok(())
+    /// Where budgets are outside the bounds of the request, at which the tracer does not look, in words.
+    pub fn outside(&self) -> Option<String> {
+        let Budgets { request, budgets, .. } = self;
+        let frames = &request.frames;
+        let outside = |(frame, &budget): (usize, &u32)| {
+            let is_left = |bound: &Bound| bound.is_left_by(budget, frames.list(*bound)[frame]);
+            Bound::ALL.into_iter().find(is_left).map(|bound| (frame, bound))
+        };
+        let outside: Vec<(usize, Bound)> = budgets.iter().enumerate().filter_map(outside).collect();
+        let &(frame, bound) = outside.first()?;
+        let place = match outside.len() {
+            1 => String::new(),
+            several => format!("{several} frames, first in "),
+        };
+        Some(format!(
+            "Not within the bounds in {place}{}: its budget of {} Wh is {} its {} of {} Wh.",
+            frames.calendar.name(frame),
+            budgets[frame],
+            bound.beyond(),
+            bound.name(),
+            frames.list(bound)[frame],
+        ))
     }
 
-    fn picture<'b>(&'b self, title: &'b str) -> Picture<'b> {
+    /// The picture as an SVG text, with this needed capacity.
+    pub fn picture(&self, title: &str, needed: Option<u64>) -> String {
         let Request { figures, frames } = self.request;
-        Picture {
+        svg(&Picture {
             title,
+            calendar: frames.calendar,
             capacity: figures.capacity,
-            needed: Linked.needed(*figures, frames.lent()).ok(),
+            needed,
             start: figures.start,
             end: figures.end,
             harvest: &frames.harvest,
@@ -130,6 +120,6 @@ impl<'a> Budgets<'a> {
             charges: &self.charges,
             losses: &self.losses,
             recorded: 0,
-        }
+        })
     }
 }

@@ -1,7 +1,8 @@
 //! `plan`: the plan of a request.
 
-use super::budgets::{Budgets, Shown};
-use super::worth;
+use super::budgets::Budgets;
+use super::shown::Shown;
+use super::{worth, WITHOUT_LEASTS};
 use crate::cli::PlanArguments;
 use crate::failure::Failure;
 use crate::files::print;
@@ -15,17 +16,33 @@ pub fn run(arguments: &PlanArguments) -> Result<(), Failure> {
         return listing(draft);
     }
     let request = draft.request()?;
-    let mut budgets = vec![0; request.frames.harvest.len()];
-    let planned = Linked.plan(request.figures, request.frames.lent(), &mut budgets);
-    planned.map_err(|refusal| request.refused(refusal))?;
-    let plan = Budgets::trace(&request, budgets)?;
+    let planned = request.planned(arguments.leasts.without_leasts);
+    let plan = Budgets::trace(&request, budgets(&planned, arguments.leasts.without_leasts)?)?;
+    let without = if arguments.leasts.without_leasts {
+        " without its leasts"
+    } else {
+        ""
+    };
+    let title = format!("Plan of {}{without}", arguments.request.request.input_name());
+    let words = summary(&planned, &plan, arguments.leasts.without_leasts)?;
     let shown = Shown {
-        title: &format!("Plan of {}", arguments.request.request.input_name()),
-        words: &summary(&request, &plan)?,
-        warnings: &[],
+        table: plan.table(&request.frames.bounds()),
+        picture: &|| plan.picture(&title, planned.needed()),
+        words: &words,
+        warnings: &plan.outside().into_iter().collect::<Vec<_>>(),
         inputs: &[&arguments.request.request],
     };
-    plan.show(&arguments.report, &shown)
+    shown.show(&arguments.report)
+}
+
+/// The budgets of the plan; where leasts are out of reach, the refusal says what is planned without them.
+fn budgets(request: &Request, is_without: bool) -> Result<Vec<u32>, Failure> {
+    let mut budgets = vec![0; request.frames.harvest.len()];
+    let planned = Linked.plan(request.figures, request.frames.lent(), &mut budgets);
+    planned.map(|_| budgets).map_err(|refusal| match refusal {
+        Refusal::LeastsNotFeasible if !is_without => request.refused(refusal).with(WITHOUT_LEASTS),
+        other => request.refused(other),
+    })
 }
 
 /// Prints document 01's listing, from the proved entry.
@@ -53,26 +70,27 @@ fn refusal_in(listing: &str) -> Option<Refusal> {
     Some(Refusal::from_code(number, p))
 }
 
-/// The plan in words.
-fn summary(request: &Request, plan: &Budgets<'_>) -> Result<String, Failure> {
-    let figures = request.figures;
-    let needed = Linked.needed(figures, request.frames.lent())?;
+/// The plan in words, and where it leaves the leasts that it was made without.
+fn summary(planned: &Request, plan: &Budgets<'_>, is_without: bool) -> Result<String, Failure> {
+    let needed = Linked.needed(planned.figures, planned.frames.lent())?;
     let serves = format!("a capacity of {needed} Wh would serve every curve as well as unlimited storage");
-    let bounded = if request.frames.is_bounded() {
-        "within the bounds, "
-    } else {
-        ""
+    let within = match (planned.frames.is_bounded(), is_without) {
+        (true, true) => "within the mosts, ",
+        (true, false) => "within the bounds, ",
+        (false, true) => "without the leasts, ",
+        (false, false) => "",
     };
-    Ok(format!(
-        "{}\n\
-         {}, and is at most {} Wh after a frame, of a capacity of {} Wh.\n\
-         {}.\n\
-         {}.",
-        plan.energies(),
-        plan.course(),
-        plan.charges.iter().max().unwrap_or(&0),
-        figures.capacity,
-        capitalised(&format!("{bounded}{serves}")),
-        capitalised(&worth(&plan.budgets)?),
-    ))
+    let charge = plan.charges.iter().max().unwrap_or(&0);
+    let capacity = planned.figures.capacity;
+    let lines = [
+        Some(plan.energies()),
+        plan.outside(),
+        Some(format!(
+            "{}, and is at most {charge} Wh after a frame, of a capacity of {capacity} Wh.",
+            plan.course()
+        )),
+        Some(capitalised(&format!("{within}{serves}."))),
+        Some(capitalised(&format!("{}.", worth(&plan.budgets)?))),
+    ];
+    Ok(lines.into_iter().flatten().collect::<Vec<_>>().join("\n"))
 }

@@ -1,11 +1,12 @@
 //! `trace`: the charges and losses that supplied budgets lead to, and the verdict.
 
-use super::budgets::{Budgets, Shown};
+use super::budgets::Budgets;
+use super::shown::Shown;
 use crate::cli::TraceArguments;
 use crate::failure::Failure;
-use crate::report::{counted, ending};
-use crate::request::{read_budgets, Bound, Request};
-use energy::{Refusal, Verdict};
+use crate::report::ending;
+use crate::request::{read_budgets, Request};
+use energy::Verdict;
 
 pub fn run(arguments: &TraceArguments) -> Result<(), Failure> {
     if arguments.request.request.is_standard_input() && arguments.budgets.is_standard_input() {
@@ -13,39 +14,38 @@ pub fn run(arguments: &TraceArguments) -> Result<(), Failure> {
             "gomzhiva: the request and the budgets cannot both be standard input".into(),
         ));
     }
-    let request = arguments.request.read()?.request()?;
-    let budgets = read_budgets(&arguments.budgets)?;
-    let lengths = format!(
-        "{} for {}",
-        counted(budgets.len(), "budget"),
-        counted(request.frames.harvest.len(), "frame")
-    );
-    let traced = Budgets::trace(&request, budgets).map_err(|failure| match failure.refusal() {
-        Some(Refusal::WrongLength) => failure.with(&lengths),
-        _ => failure,
-    })?;
+    let mut request = arguments.request.read()?.request()?;
+    let calendar = &mut request.frames.calendar;
+    let budgets = read_budgets(&arguments.budgets, calendar.time(0))?;
+    calendar.times = calendar.times.or(budgets.times);
+    show(arguments, &Budgets::trace(&request, budgets.list)?)
+}
+
+fn show(arguments: &TraceArguments, traced: &Budgets<'_>) -> Result<(), Failure> {
+    let request = traced.request;
     let is_feasible = traced.verdict == Verdict::Feasible;
-    let outside = outside(&traced);
+    let outside = traced.outside();
     let title = format!(
         "{} traced with {}{}",
         arguments.budgets.input_name(),
         arguments.request.request.input_name(),
         amiss(is_feasible, outside.is_none()),
     );
-    let verdict = verdict(&traced, outside.is_none());
+    let verdict = verdict(traced, outside.is_none());
     let warnings = [outside.clone(), (!is_feasible).then_some(verdict.clone())];
     let words = [
         Some(traced.energies()),
-        outside.or_else(|| within(&request)),
+        outside.or_else(|| within(request)),
         Some(verdict),
     ];
     let shown = Shown {
-        title: &title,
+        table: traced.table(&request.frames.bounds()),
+        picture: &|| traced.picture(&title, request.needed()),
         words: &words.into_iter().flatten().collect::<Vec<_>>().join("\n"),
         warnings: &warnings.into_iter().flatten().collect::<Vec<_>>(),
         inputs: &[&arguments.request.request, &arguments.budgets],
     };
-    traced.show(&arguments.report, &shown)
+    shown.show(&arguments.report)
 }
 
 /// What is amiss with the budgets, for the title.
@@ -64,32 +64,6 @@ fn within(request: &Request) -> Option<String> {
     request.frames.is_bounded().then(words)
 }
 
-/// Where budgets are outside the bounds of the request, at which the tracer does not look, in words.
-fn outside(traced: &Budgets<'_>) -> Option<String> {
-    let Budgets { request, budgets, .. } = traced;
-    let outside = |(frame, &budget): (usize, &u32)| {
-        let is_left = |bound: &Bound| bound.is_left_by(budget, request.frames.list(*bound)[frame]);
-        Bound::ALL.into_iter().find(is_left).map(|bound| (frame, bound))
-    };
-    let outside: Vec<(usize, Bound)> = budgets.iter().enumerate().filter_map(outside).collect();
-    let &(frame, bound) = outside.first()?;
-    let beyond = match bound {
-        Bound::Least => "below",
-        Bound::Most => "above",
-    };
-    let place = match outside.len() {
-        1 => String::new(),
-        several => format!("{several} frames, first in "),
-    };
-    Some(format!(
-        "Not within the bounds in {place}frame {}: its budget of {} Wh is {beyond} its {} of {} Wh.",
-        frame + 1,
-        budgets[frame],
-        bound.name(),
-        request.frames.list(bound)[frame],
-    ))
-}
-
 /// The verdict in words.
 fn verdict(traced: &Budgets<'_>, is_within: bool) -> String {
     let (last, end) = (traced.last_charge(), traced.request.figures.end);
@@ -97,6 +71,9 @@ fn verdict(traced: &Budgets<'_>, is_within: bool) -> String {
     match traced.verdict {
         Verdict::Feasible => format!("Feasible{apart}: {}.", ending(last, end)),
         Verdict::EndTooLow => format!("Not feasible: {}.", ending(last, end)),
-        Verdict::BelowZero { frame } => format!("Not feasible: the charge after frame {frame} is below zero."),
+        Verdict::BelowZero { frame } => {
+            let frame = traced.request.frames.calendar.name_within(frame as usize - 1);
+            format!("Not feasible: the charge after {frame} is below zero.")
+        }
     }
 }

@@ -1,6 +1,6 @@
 //! The calls of a shift as text, one line each.
 
-use crate::request::{Bound, FrameLists, Request, NO_BOUND};
+use crate::request::{Bound, Calendar, FrameLists, Moment, Request, Times, NO_BOUND};
 use energy::Figures;
 use std::fmt;
 
@@ -16,7 +16,9 @@ impl fmt::Display for Call {
         match self {
             Call::Start(Request { figures, frames }) => {
                 let Figures { capacity, start, end } = figures;
-                write!(f, "start capacity {capacity} start {start} end {end} harvest")?;
+                write!(f, "start capacity {capacity} start {start} end {end}")?;
+                write_times(f, frames.calendar)?;
+                write!(f, " harvest")?;
                 frames.harvest.iter().try_for_each(|harvest| write!(f, " {harvest}"))?;
                 frames.bounds().into_iter().try_for_each(|bound| {
                     write!(f, " {}", bound.name())?;
@@ -38,13 +40,13 @@ impl Call {
                 harvest: number(harvest)?,
                 used: number(used)?,
             },
-            ["start", "capacity", capacity, "start", start, "end", end, "harvest", lists @ ..] => {
+            ["start", "capacity", capacity, "start", start, "end", end, frames @ ..] => {
                 let figures = Figures {
                     capacity: number(capacity)?,
                     start: number(start)?,
                     end: number(end)?,
                 };
-                let frames = frame_lists(lists)?;
+                let frames = frame_lists(frames)?;
                 Call::Start(Request { figures, frames })
             }
             _ => return None,
@@ -67,22 +69,68 @@ fn number(word: &str) -> Option<u32> {
     word.parse().ok()
 }
 
-/// The harvests, and behind the name of each bound that some frame has its list.
+/// Writes when the first frame begins, if that is known, and then the first one with another offset from UTC.
+fn write_times(f: &mut fmt::Formatter<'_>, calendar: Calendar) -> fmt::Result {
+    let times = match calendar.times {
+        Some(times) => times,
+        None => return Ok(()),
+    };
+    write!(f, " time {}", times.at(0).word())?;
+    match times.changes_at() {
+        None => Ok(()),
+        Some(frame) => write!(f, " frame {} time {}", calendar.number(frame), times.at(frame).word()),
+    }
+}
+
+/// The times that were written, and the words behind them.
+fn times_of<'a, 'b>(words: &'a [&'b str]) -> Option<(Option<Times>, &'a [&'b str])> {
+    let moment = |word: &str| Moment::readings(word).pop();
+    match words {
+        ["time", begins, "frame", frame, "time", changed, rest @ ..] => {
+            let frame = number(frame)?.checked_sub(1)? as usize;
+            let times = Times::from(moment(begins)?).with(frame, moment(changed)?)?;
+            Some((Some(times), rest))
+        }
+        ["time", begins, rest @ ..] => Some((Some(Times::from(moment(begins)?)), rest)),
+        rest => Some((None, rest)),
+    }
+}
+
+/// When the frames begin, if that is known, the harvests, and behind the name of each bound that some frame has its list.
 fn frame_lists(words: &[&str]) -> Option<FrameLists> {
+    let (times, words) = times_of(words)?;
+    let words = words.strip_prefix(&["harvest"])?;
     let (words, most) = parted(words, Bound::Most);
     let (words, least) = parted(words, Bound::Least);
     let harvest: Vec<u32> = words.iter().map(|word| number(word)).collect::<Option<_>>()?;
-    let limits = |bound: Bound, words: Option<&[&str]>| {
-        let limit = |word: &&str| match *word {
-            NO_BOUND => Some(bound.absent()),
-            word => number(word),
-        };
-        let absent = vec![bound.absent(); harvest.len()];
-        words.map_or(Some(absent), |words| words.iter().map(limit).collect())
+    let limits = |bound, words| limits(bound, words, harvest.len());
+    let frames = FrameLists {
+        calendar: Calendar { before: 0, times },
+        least: limits(Bound::Least, least)?,
+        most: limits(Bound::Most, most)?,
+        harvest,
     };
-    let (least, most) = (limits(Bound::Least, least)?, limits(Bound::Most, most)?);
-    let is_whole = least.len() == harvest.len() && most.len() == harvest.len();
-    is_whole.then_some(FrameLists { harvest, least, most })
+    is_whole(&frames).then_some(frames)
+}
+
+/// The list of a bound from its words; without any, none of so many frames has the bound.
+fn limits(bound: Bound, words: Option<&[&str]>, frames: usize) -> Option<Vec<u32>> {
+    let limit = |word: &&str| match *word {
+        NO_BOUND => Some(bound.absent()),
+        word => number(word),
+    };
+    match words {
+        Some(words) => words.iter().map(limit).collect(),
+        None => Some(vec![bound.absent(); frames]),
+    }
+}
+
+/// Whether the list of each bound has an entry for each frame, and the offset from UTC changes within the frames, if at all.
+fn is_whole(frames: &FrameLists) -> bool {
+    let length = frames.harvest.len();
+    let changes_at = frames.calendar.times.and_then(Times::changes_at);
+    let is_listed = |bound: &Bound| frames.list(*bound).len() == length;
+    Bound::ALL.iter().all(is_listed) && changes_at.map_or(true, |frame| frame < length)
 }
 
 /// What stands before the name of a bound, and behind it if it is there.
@@ -150,6 +198,45 @@ mod tests {
         }
     }
 
+    #[test]
+    fn a_start_may_hold_the_first_time() {
+        for time in [
+            "06:00",
+            "06:00:30",
+            "2026-06-21T06:00",
+            "2026-06-21T06:00Z",
+            "06:00+02:00",
+            "2026-03-29T01:45+01:00 frame 2 time 2026-03-29T03:00+02:00",
+        ] {
+            let text = format!("start capacity 5 start 2 end 2 time {time} harvest 6 4");
+            let call = Call::parse(&text).expect("a start");
+            let begins = match &call {
+                Call::Start(request) => request.frames.calendar.time(0),
+                Call::Record { .. } => None,
+            };
+            assert_eq!(begins.map(Moment::word).as_deref(), time.split(' ').next());
+            assert_eq!(call.to_string(), text);
+        }
+        for time in [
+            "",
+            "time",
+            "time noon",
+            "time 6:00",
+            "time 21.06.2026T06:00",
+            "time 24:00",
+            "time 06:00 06:15",
+            "time 06:00 frame 2 time 06:15",
+            "time 06:00+01:00 frame 2 time 06:15+01:00",
+            "time 06:00+01:00 frame 2 time 07:30+02:00",
+            "time 06:00+01:00 frame 3 time 07:30+02:00",
+            "time 06:00+01:00 frame 1 time 07:00+02:00",
+            "time 06:00+01:00 frame 0 time 06:45+02:00",
+        ] {
+            let text = format!("start capacity 5 start 2 end 2 {time} harvest 6 4");
+            assert_eq!(Call::parse(&text), None, "{text:?}");
+        }
+    }
+
     fn start(harvest: [u32; 2], least: [u32; 2], most: [u32; 2]) -> Call {
         let [harvest, least, most] = [harvest, least, most].map(Vec::from);
         Call::Start(Request {
@@ -158,7 +245,12 @@ mod tests {
                 start: 2,
                 end: 2,
             },
-            frames: FrameLists { harvest, least, most },
+            frames: FrameLists {
+                calendar: Calendar::default(),
+                harvest,
+                least,
+                most,
+            },
         })
     }
 

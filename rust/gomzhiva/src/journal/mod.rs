@@ -1,6 +1,7 @@
 //! A shift's journal: the calls that were accepted, and nothing else. The shift is what the proved entries make of them.
 
 mod call;
+mod lock;
 mod running;
 mod seal;
 
@@ -8,11 +9,13 @@ pub use call::Call;
 pub use running::Running;
 
 use crate::failure::Failure;
-use crate::files::{self, Place, MOST_BYTES};
+use crate::files::{self, folder_of, Place, MOST_BYTES};
+use crate::kinds::JOURNAL_BEGINNING;
+use crate::names::printed;
 use crate::request::{quoted, Fault, Request};
-use rustix::fs::{flock, FlockOperation};
+use crate::temporary::remove_left;
 use seal::{written, Seal};
-use std::fs::{self, File, OpenOptions};
+use std::fs::{self, File};
 use std::io::{self, Read, Seek, SeekFrom, Write};
 use std::path::{Path, PathBuf};
 
@@ -31,11 +34,11 @@ pub struct Journal {
 }
 
 /// Refuses an output, standard output if none is named, that is the journal of a shift, whichever.
-pub fn is_no_journal(output: Option<&Path>) -> Result<(), Failure> {
-    if !files::output_begins_with(output, b"start capacity ") {
+pub fn refuse_as_output(output: Option<&Path>) -> Result<(), Failure> {
+    if !files::output_begins_with(output, JOURNAL_BEGINNING) {
         return Ok(());
     }
-    let name = output.map_or("standard output".into(), |path| path.display().to_string());
+    let name = output.map_or("standard output".into(), printed);
     Err(Failure::Fault(format!(
         "gomzhiva: {name}: an output that is no shift's journal is expected; nothing is written"
     )))
@@ -53,17 +56,36 @@ impl Journal {
     pub fn start(place: &Place, request: Request) -> Result<Running, Failure> {
         let path = file_of(place)?;
         let running = Running::start(request.clone()).map_err(|refusal| request.refused(refusal))?;
+        if let Ok(there) = fs::metadata(path) {
+            lock::refuse_irregular(path, &there)?;
+        }
         let (line, _) = Seal::default().close(&Call::Start(request).to_string());
-        files::create(path, line.as_bytes()).map_err(|error| Failure::system(path.display(), &error))?;
+        files::create(path, line.as_bytes()).map_err(|error| not_created(path, &error))?;
         Ok(running)
     }
 
     /// Opens and locks a journal, and runs its calls again.
     pub fn open(place: &Place, purpose: Purpose) -> Result<Journal, Failure> {
         let path = file_of(place)?;
-        let (file, bytes) = lock_and_read(path, purpose).map_err(|error| Failure::system(path.display(), &error))?;
+        let file = lock::locked(path, purpose)?;
+        let bytes = read(&file).map_err(|error| Failure::system(printed(path), &error))?;
         let mut lines = bytes.split_inclusive(|&b| b == b'\n').zip(1..);
-        let (first, _) = lines.next().unwrap_or_default();
+        let (first, mut last) = lines.next().unwrap_or((b"", 1));
+        let mut journal = Journal::begun(path, file, first)?;
+        for (line, number) in lines {
+            journal.run_again(line, number)?;
+            last = number;
+        }
+        // No journal has so many bytes, and what was not read may be anything.
+        if bytes.len() > MOST_BYTES {
+            let found = format!("more than {MOST_BYTES} bytes");
+            return Err(fault(path, last, "the end of the journal", found));
+        }
+        Ok(journal)
+    }
+
+    /// The journal of a file as far as its first line.
+    fn begun(path: &Path, file: File, first: &[u8]) -> Result<Journal, Failure> {
         let (running, seal) = first_line(path, first)?;
         let mut journal = Journal {
             file,
@@ -75,16 +97,6 @@ impl Journal {
             torn: None,
         };
         journal.keep(first);
-        let mut last = 1;
-        for (line, number) in lines {
-            journal.run_again(line, number)?;
-            last = number;
-        }
-        // No journal has so many bytes, and what was not read may be anything.
-        if bytes.len() > MOST_BYTES {
-            let fault = format!("the end of the journal is expected, found more than {MOST_BYTES} bytes");
-            return Err(Failure::Fault(format!("{}:{last}:1: {fault}", path.display())));
-        }
         Ok(journal)
     }
 
@@ -114,6 +126,7 @@ impl Journal {
                 self.keep(line);
             }
             None if self.is_torn(line) => self.torn = Some(number),
+            None if is_saved_with_cr(&self.seal, line) => return Err(saved_with_cr(&self.path, number)),
             None => return Err(damaged(&self.path, number, "a whole line as it was written", line)),
         }
         Ok(())
@@ -128,11 +141,12 @@ impl Journal {
     /// or one that cannot be written, the whole lines are those that were.
     pub fn record(&mut self, harvest: u32, used: u32) -> Result<(), Failure> {
         let mut running = self.running.clone();
-        running.record(harvest, used)?;
+        let recorded = running.record(harvest, used);
+        recorded.map_err(|refusal| self.running.refused(refusal, harvest))?;
         let (line, seal) = self.seal.close(&Call::Record { harvest, used }.to_string());
         let ended = if self.unended { format!("\n{line}") } else { line };
         if let Err(error) = self.append(ended.as_bytes()) {
-            let failure = Failure::system(self.path.display(), &error);
+            let failure = Failure::system(printed(&self.path), &error);
             return Err(match self.file.set_len(self.length) {
                 Ok(()) => failure,
                 Err(_) => failure.with("the frame may be recorded all the same: `shift show` tells"),
@@ -145,18 +159,20 @@ impl Journal {
         Ok(())
     }
 
-    /// Puts a line behind the whole lines, in place of a torn one, and syncs it.
+    /// Puts a line behind the whole lines, in place of a torn one, and syncs it; then removes what killed runs left beside it.
     fn append(&mut self, line: &[u8]) -> io::Result<()> {
         self.file.set_len(self.length)?;
         self.file.seek(SeekFrom::Start(self.length))?;
         self.file.write_all(line)?;
-        self.file.sync_all()
+        self.file.sync_all()?;
+        remove_left(folder_of(&self.path));
+        Ok(())
     }
 
     /// What to tell about a torn line.
     pub fn notice(&self) -> Option<String> {
         let number = self.torn?;
-        let name = self.path.display();
+        let name = printed(&self.path);
         Some(format!(
             "{name}:{number}:1: left out a torn last line: its recording was never answered"
         ))
@@ -165,29 +181,25 @@ impl Journal {
 
 /// A journal is a file, since it is locked and looked at again.
 fn file_of(place: &Place) -> Result<&Path, Failure> {
-    let expected = "gomzhiva: --journal: the name of a file is expected, found";
+    let expected = "gomzhiva: the name of a file is expected as a journal, found";
     let fault = || Failure::Fault(format!("{expected} {}", quoted(&place.given())));
     place.file().ok_or_else(fault)
 }
 
-fn lock_and_read(path: &Path, purpose: Purpose) -> io::Result<(File, Vec<u8>)> {
-    let records = purpose == Purpose::Record;
-    let lock = if records {
-        FlockOperation::LockExclusive
+/// The failure of a journal that could not be made.
+fn not_created(path: &Path, error: &io::Error) -> Failure {
+    let failure = Failure::system(printed(path), error);
+    if error.kind() == io::ErrorKind::AlreadyExists && fs::symlink_metadata(path).is_ok() {
+        failure.with("nothing is started, since a shift needs a new journal")
     } else {
-        FlockOperation::LockShared
-    };
-    let mut file = loop {
-        let file = OpenOptions::new().read(true).write(records).open(path)?;
-        flock(&file, lock)?;
-        // While it was waited for, the name may have been given to another file.
-        if files::identity(&file.metadata()?) == files::identity(&fs::metadata(path)?) {
-            break file;
-        }
-    };
+        failure
+    }
+}
+
+fn read(file: &File) -> io::Result<Vec<u8>> {
     let mut bytes = Vec::new();
-    (&mut file).take(files::READ_BYTES).read_to_end(&mut bytes)?;
-    Ok((file, bytes))
+    file.take(files::READ_BYTES).read_to_end(&mut bytes)?;
+    Ok(bytes)
 }
 
 /// The shift that a journal's first line starts.
@@ -195,12 +207,26 @@ fn first_line(path: &Path, line: &[u8]) -> Result<(Running, Seal), Failure> {
     let opened = Seal::default().open(line);
     match opened.and_then(|(text, seal)| Some((Call::parse(text)?, seal))) {
         Some((Call::Start(request), seal)) => {
-            let why = format!("{} starts such a shift, and stays as it is", path.display());
+            let why = format!("{} starts such a shift, and stays as it is", printed(path));
             let running = Running::start(request.clone()).map_err(|refusal| request.refused(refusal).with(&why))?;
             Ok((running, seal))
         }
+        _ if is_saved_with_cr(&Seal::default(), line) => Err(saved_with_cr(path, 1)),
         _ => Err(damaged(path, 1, "the start of a shift, as a journal begins,", line)),
     }
+}
+
+/// Whether a line opens but for the CR before its LF.
+fn is_saved_with_cr(seal: &Seal, line: &[u8]) -> bool {
+    let as_written = |line: &[u8]| [line, b"\n"].concat();
+    let line = line.strip_suffix(b"\r\n").map(as_written);
+    line.map_or(false, |line| seal.open(&line).is_some())
+}
+
+/// The failure of a journal that an editor saved in its own way.
+fn saved_with_cr(path: &Path, line: usize) -> Failure {
+    let found = "CR LF, with which an editor of another system saved it (`tr -d '\\r'` removes the CRs)";
+    fault(path, line, "LF, in which a journal's lines end,", found.to_string())
 }
 
 /// The failure of a journal that is not as it was written; nothing of it is changed.
@@ -209,12 +235,16 @@ fn damaged(path: &Path, line: usize, expected: &str, found: &[u8]) -> Failure {
         "" => "nothing".to_string(),
         text => quoted(text),
     };
-    let expected = expected.to_string();
-    Fault {
+    fault(path, line, expected, found)
+}
+
+/// The fault of a line.
+fn fault(path: &Path, line: usize, expected: &str, found: String) -> Failure {
+    let fault = Fault {
         line,
         column: 1,
-        expected,
+        expected: expected.to_string(),
         found,
-    }
-    .of(&path.display().to_string())
+    };
+    fault.of(&printed(path))
 }

@@ -1,6 +1,7 @@
 //! A running shift: its forecast, its record in the library's hands, and the frames recorded.
 
-use crate::request::{FrameLists, Request};
+use crate::failure::Failure;
+use crate::request::{harvest_over_limit, FrameLists, Request};
 use energy::{Energy, Linked, Refusal, Rest, Shift};
 
 /// A frame that was recorded, with the charge after it and what it lost.
@@ -43,15 +44,27 @@ impl Running {
         Ok(())
     }
 
+    /// The failure of a recording of this harvest in the next frame.
+    pub fn refused(&self, refusal: Refusal, harvest: u32) -> Failure {
+        let sentence = match refusal {
+            Refusal::HarvestOverLimit { .. } => {
+                harvest_over_limit(self.forecast.calendar, self.recorded.len(), harvest)
+            }
+            other => other.sentence(),
+        };
+        Failure::Refused { refusal, sentence }
+    }
+
     /// One figure of each frame recorded.
     pub fn column<N>(&self, figure: fn(&Recorded) -> N) -> Vec<N> {
         self.recorded.iter().map(figure).collect()
     }
 
-    /// The budgets of the frames not yet recorded.
-    pub fn plan_rest(&self) -> Result<(Rest, Vec<u32>), Refusal> {
-        let mut budgets = vec![0; self.forecast.harvest.len()];
-        let rest = Linked.shift_plan_rest(self.shift, self.forecast.lent(), &mut budgets)?;
+    /// The budgets of the frames not yet recorded, with the leasts of the forecast or without them.
+    pub fn plan_rest(&self, without_leasts: bool) -> Result<(Rest, Vec<u32>), Refusal> {
+        let forecast = self.forecast.planned(without_leasts);
+        let mut budgets = vec![0; forecast.harvest.len()];
+        let rest = Linked.shift_plan_rest(self.shift, forecast.lent(), &mut budgets)?;
         let part = Linked.shift_rest_part(self.shift, &budgets)?;
         Ok((rest, part.to_vec()))
     }
@@ -60,6 +73,7 @@ impl Running {
     pub fn recorded_frames(&self) -> FrameLists {
         let recorded = self.recorded.len();
         FrameLists {
+            calendar: self.forecast.calendar,
             harvest: self.column(|r| r.harvest),
             least: self.forecast.least[..recorded].to_vec(),
             most: self.forecast.most[..recorded].to_vec(),

@@ -1,5 +1,7 @@
 //! Lines and their cells: `#` begins a comment, double quotes hold a cell together.
 
+use super::fault::{quoted, Fault, END_OF_LINE};
+
 /// A cell, with its column in the line, counted from 1.
 #[derive(Clone, Copy, Debug, PartialEq, Eq)]
 pub struct Cell<'a> {
@@ -13,6 +15,28 @@ pub struct Row<'a> {
     pub line: usize,
     pub end: usize,
     pub cells: Vec<Cell<'a>>,
+}
+
+impl<'a> Row<'a> {
+    /// What stands in a cell; nothing where it is missing.
+    pub fn text(&self, i: usize) -> &'a str {
+        self.cells.get(i).map_or("", |cell| cell.text)
+    }
+
+    /// The fault of a cell in which something else is expected.
+    pub fn unlike(&self, i: usize, expected: &str) -> Fault {
+        let (column, found) = match self.cells.get(i) {
+            Some(Cell { column, text: "" }) => (*column, "nothing".to_string()),
+            Some(Cell { column, text }) => (*column, quoted(text)),
+            None => (self.end, END_OF_LINE.to_string()),
+        };
+        Fault {
+            line: self.line,
+            column,
+            expected: expected.to_string(),
+            found,
+        }
+    }
 }
 
 /// A line's place in its text, and what stands in it.

@@ -17,7 +17,7 @@ pub const END_OF_LINE: &str = "the end of the line";
 
 /// A found piece of text, shortened, with control characters shown.
 pub fn quoted(text: &str) -> String {
-    const MOST: usize = 24;
+    const MOST: usize = 32;
     let shown: String = text.chars().take(MOST).flat_map(char::escape_debug).collect();
     let more = if text.chars().count() > MOST { "..." } else { "" };
     format!("'{shown}{more}'")

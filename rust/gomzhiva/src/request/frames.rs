@@ -1,5 +1,6 @@
-//! What a request says of its frames: the harvest of each, and the bounds of its budget.
+//! What a request says of its frames: which they are, the harvest of each, and the bounds of its budget.
 
+use super::Calendar;
 use energy::{Frames, NO_UPPER_END};
 
 /// A bound that the budget of a frame may have.
@@ -19,6 +20,14 @@ impl Bound {
         match self {
             Bound::Least => "least",
             Bound::Most => "most",
+        }
+    }
+
+    /// On which side of it a budget leaves it.
+    pub const fn beyond(self) -> &'static str {
+        match self {
+            Bound::Least => "below",
+            Bound::Most => "above",
         }
     }
 
@@ -50,9 +59,10 @@ impl Bound {
     }
 }
 
-/// One entry of each list for each frame.
+/// Which frames there are, and one entry of each list for each of them.
 #[derive(Clone, Debug, PartialEq, Eq)]
 pub struct FrameLists {
+    pub calendar: Calendar,
     pub harvest: Vec<u32>,
     pub least: Vec<u32>,
     pub most: Vec<u32>,
@@ -68,9 +78,19 @@ impl FrameLists {
         }
     }
 
+    /// The frames as they are planned, with their leasts or without them.
+    pub fn planned(&self, without_leasts: bool) -> FrameLists {
+        let mut planned = self.clone();
+        if without_leasts {
+            planned.least.fill(Bound::Least.absent());
+        }
+        planned
+    }
+
     /// What is left without the first frames.
     pub fn rest(&self, from: usize) -> FrameLists {
         FrameLists {
+            calendar: self.calendar.rest(from),
             harvest: self.harvest[from..].to_vec(),
             least: self.least[from..].to_vec(),
             most: self.most[from..].to_vec(),
@@ -122,6 +142,7 @@ mod tests {
     #[test]
     fn each_bound_is_there_by_itself() {
         let lists = |least: &[u32], most: &[u32]| FrameLists {
+            calendar: Calendar::default(),
             harvest: vec![6, 4],
             least: least.to_vec(),
             most: most.to_vec(),
@@ -134,6 +155,7 @@ mod tests {
         assert_eq!(
             lists(&[0, 3], &[0, none]).rest(1),
             FrameLists {
+                calendar: Calendar { before: 1, times: None },
                 harvest: vec![4],
                 least: vec![3],
                 most: vec![none],

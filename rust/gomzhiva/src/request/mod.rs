@@ -1,24 +1,40 @@
 //! Requests and budgets from files: text, CSV or a word file, told apart by what they hold.
 
+mod budgets;
+mod calendar;
 mod cells;
 mod fault;
+mod forms;
 mod frames;
+mod leasts;
+mod moment;
+mod order;
 mod refused;
 mod sheet;
+mod times;
+mod words;
 
+pub use budgets::read_budgets;
+pub use calendar::Calendar;
 pub use fault::{quoted, Fault};
 pub use frames::{Bound, FrameLists, NO_BOUND};
+pub use leasts::Store;
+pub use moment::{Moment, FRAME_SECONDS};
+pub use refused::{harvest_over_limit, too_many};
+pub use times::Times;
 
 use crate::failure::Failure;
 use crate::files::{Place, MOST_BYTES};
+use crate::kinds::{is_journal, is_word_file};
 use clap::Args;
-use energy::{Energy, Figures, Linked, MAX_CAPACITY, MAX_FILE_BYTES, MAX_FRAMES};
-use sheet::{Sheet, BUDGET, CAPACITY, END, FIGURES, HARVEST, START};
+use energy::{Energy, Figures, Linked, MAX_CAPACITY};
+use sheet::{Sheet, CAPACITY, END, FIGURES, START};
 
 /// Where a request stands, and figures in place of its own.
 #[derive(Args, Debug)]
 pub struct RequestArguments {
     /// The request: text, CSV or a word file; - is standard input
+    #[arg(value_hint = clap::ValueHint::FilePath)]
     pub request: Place,
     /// The capacity in Wh, in place of the request's
     #[arg(long, value_name = "WH", allow_negative_numbers = true, value_parser = whole_number)]
@@ -61,7 +77,7 @@ impl RequestArguments {
         let bytes = self.request.read()?;
         let name = self.request.input_name();
         let mut draft = if is_word_file(&bytes) {
-            from_words(bytes, name)?
+            words::from_words(bytes, name)?
         } else {
             from_text(&bytes, name)?
         };
@@ -115,93 +131,81 @@ fn in_order(figures: Figures) -> [u32; FIGURES.len()] {
 }
 
 impl Request {
-    /// The word file, from the proved writer.
-    pub fn word_file(&self) -> Result<Vec<u8>, Failure> {
-        let mut file = vec![0; MAX_FILE_BYTES];
-        let length = Linked.write(self.figures, self.frames.lent(), &mut file);
-        file.truncate(length.map_err(|refusal| self.refused(refusal))?);
-        Ok(file)
+    /// The request as it is planned, with its leasts or without them.
+    pub fn planned(&self, without_leasts: bool) -> Request {
+        Request {
+            figures: self.figures,
+            frames: self.frames.planned(without_leasts),
+        }
     }
 
-    /// The request as text, with a column for each bound that some frame has.
+    /// The needed capacity, if there is one.
+    pub fn needed(&self) -> Option<u64> {
+        Linked.needed(self.figures, self.frames.lent()).ok()
+    }
+
+    /// The request as text, with a column for the clock times if it has them, and for each bound that some frame has.
     pub fn text(&self) -> String {
         let mut text = String::new();
         for (name, value) in FIGURES.iter().zip(in_order(self.figures)) {
             text += &format!("{name} {value}\n");
         }
+        let FrameLists { calendar, harvest, .. } = &self.frames;
         let bounds = self.frames.bounds();
+        let time = if calendar.times.is_some() { "time " } else { "" };
         let names = bounds.iter().map(|bound| format!(" {}", bound.name()));
-        text += &format!("harvest{}\n", names.collect::<String>());
-        for (frame, harvest) in self.frames.harvest.iter().enumerate() {
+        text += &format!("{time}harvest{}\n", names.collect::<String>());
+        for (frame, harvest) in harvest.iter().enumerate() {
+            let time = calendar.time(frame).map_or(String::new(), |time| time.word() + " ");
             let cell = |bound: &Bound| format!(" {}", bound.text(self.frames.list(*bound)[frame]));
-            text += &format!("{harvest}{}\n", bounds.iter().map(cell).collect::<String>());
+            text += &format!("{time}{harvest}{}\n", bounds.iter().map(cell).collect::<String>());
         }
         text
     }
 }
 
-/// The budgets in a file: a table with the column `budget`, or bare numbers.
-pub fn read_budgets(place: &Place) -> Result<Vec<u32>, Failure> {
-    let name = place.input_name();
-    let bytes = place.read()?;
-    if is_word_file(&bytes) {
-        return Err(Failure::Fault(format!(
-            "{name}: a text in UTF-8 is expected, found a byte 0"
-        )));
-    }
-    let text = text_of(&bytes, &name)?;
-    let fault = |fault: Fault| fault.of(&name);
-    match sheet::bare_numbers(&text).map_err(fault)? {
-        Some(list) => Ok(list),
-        None => sheet::parse(&text)
-            .and_then(|mut sheet| sheet.list(BUDGET))
-            .map_err(fault),
-    }
-}
-
-/// A word file has a byte that no text has: the third one of its end word is 0.
-fn is_word_file(bytes: &[u8]) -> bool {
-    bytes.contains(&0)
-}
-
-fn from_words(bytes: Vec<u8>, name: String) -> Result<Draft, Failure> {
-    let [mut harvest, mut least, mut most] = [(); 3].map(|()| vec![0; MAX_FRAMES]);
-    let read = Linked
-        .read(&bytes, &mut harvest, &mut least, &mut most)
-        .map_err(|refusal| {
-            let why = format!("{name} has a byte 0 and so is no text (a spreadsheet is read as CSV in UTF-8)");
-            Failure::from(refusal).with(&why)
-        })?;
-    let [harvest, least, most] = [harvest, least, most].map(|list| list[..read.frames].to_vec());
-    Ok(Draft {
-        figures: in_order(read.figures).map(Some),
-        frames: FrameLists { harvest, least, most },
-        word_file: Some(bytes),
-        name,
-        sheet: Sheet::default(),
-    })
-}
-
 fn from_text(bytes: &[u8], name: String) -> Result<Draft, Failure> {
-    let text = text_of(bytes, &name)?;
+    let text = text_of(bytes, &name, "a request")?;
     let mut sheet = sheet::parse(&text).map_err(|fault| fault.of(&name))?;
-    let harvest = sheet.list(HARVEST).map_err(|fault| fault.of(&name))?;
+    let harvest = sheet.harvest().map_err(|fault| fault.of(&name))?;
     let [least, most] = Bound::ALL.map(|bound| sheet.bounds(bound, harvest.len()));
+    let (before, times) = (0, sheet.times());
     Ok(Draft {
         figures: sheet.figures(),
-        frames: FrameLists { harvest, least, most },
+        frames: FrameLists {
+            calendar: Calendar { before, times },
+            harvest,
+            least,
+            most,
+        },
         word_file: None,
         name,
         sheet,
     })
 }
 
-/// The characters of a text; bytes that are none stand out where a cell is read.
-fn text_of(bytes: &[u8], name: &str) -> Result<String, Failure> {
+/// The characters of a text in which something is expected; bytes that are none stand out where a cell is read.
+fn text_of(bytes: &[u8], name: &str, expected: &str) -> Result<String, Failure> {
     if bytes.len() > MOST_BYTES {
         return Err(Failure::Fault(format!(
             "{name}: a text of at most {MOST_BYTES} bytes is expected, found more"
         )));
     }
+    refuse_journal(bytes, name, expected)?;
     Ok(String::from_utf8_lossy(bytes).into_owned())
+}
+
+/// Refuses a journal where something else is expected.
+fn refuse_journal(bytes: &[u8], name: &str, expected: &str) -> Result<(), Failure> {
+    if !is_journal(bytes) {
+        return Ok(());
+    }
+    let fault = Fault {
+        line: 1,
+        column: 1,
+        expected: expected.to_string(),
+        found: "a shift's journal".to_string(),
+    };
+    let shows = "`gomzhiva shift plan --journal FILE` shows the plan of its rest";
+    Err(fault.of(name).with(shows))
 }

@@ -3,8 +3,11 @@
 //! A further figure or column that a request may have is one more row of `FIGURES` or `COLUMNS` here; `Request` takes it up.
 
 use super::cells::{count_lines, lines, plain, Cell, Line, Row, Separator};
-use super::fault::{quoted, Fault, END_OF_LINE};
+use super::fault::{Fault, END_OF_LINE};
 use super::frames::{Bound, NO_BOUND};
+use super::moment::Moment;
+use super::order::Order;
+use super::Times;
 
 /// A figure that stands once in a request, by its name.
 pub const FIGURES: [&str; 3] = ["capacity", "start", "end"];
@@ -12,26 +15,30 @@ pub const CAPACITY: usize = 0;
 pub const START: usize = 1;
 pub const END: usize = 2;
 
-/// A column of the table of frames: a list of numbers, a bound that a frame may have, or what only people read.
+/// The columns of the table of frames, in the order in which they are printed: a list of numbers, a bound that a frame may
+/// have, what says that the lines are frames in their order, what was used, or what only people read.
 pub const COLUMNS: [(&str, Kind); 9] = [
+    ("frame", Kind::Number),
+    ("time", Kind::Time),
     ("harvest", Kind::List(HARVEST)),
     (Bound::Least.name(), Kind::Bound(Bound::Least)),
     (Bound::Most.name(), Kind::Bound(Bound::Most)),
     ("budget", Kind::List(BUDGET)),
-    ("frame", Kind::Skipped),
-    ("time", Kind::Skipped),
+    ("use", Kind::Use),
     ("charge", Kind::Skipped),
-    ("use", Kind::Skipped),
     ("loss", Kind::Skipped),
 ];
-pub const HARVEST: usize = 0;
-pub const BUDGET: usize = 1;
+const HARVEST: usize = 0;
+const BUDGET: usize = 1;
 const LISTS: usize = 2;
 
 #[derive(Clone, Copy, Debug, PartialEq, Eq)]
 pub enum Kind {
     List(usize),
     Bound(Bound),
+    Number,
+    Time,
+    Use,
     Skipped,
 }
 
@@ -41,6 +48,9 @@ pub struct Sheet {
     figures: [Option<(u32, usize)>; FIGURES.len()],
     lists: [Option<Vec<u32>>; LISTS],
     bounds: [Option<Vec<u32>>; Bound::ALL.len()],
+    /// What was used, as far as it is numbers: in a request it stands for people alone.
+    uses: Option<Result<Vec<u32>, Fault>>,
+    order: Order,
     table: Option<Fault>,
     end_line: usize,
 }
@@ -51,10 +61,32 @@ impl Sheet {
         self.figures.map(|figure| figure.map(|(value, _)| value))
     }
 
-    /// The list, or what is wrong where the text has no such column.
-    pub fn list(&mut self, which: usize) -> Result<Vec<u32>, Fault> {
-        let expected = || format!("a table with the column '{}'", column_name(which));
-        self.lists[which].take().ok_or_else(|| self.lacks(expected()))
+    /// The harvests, or what is wrong where the text has none.
+    pub fn harvest(&mut self) -> Result<Vec<u32>, Fault> {
+        self.list(HARVEST, "'harvest'")
+    }
+
+    /// The budgets, or where there are none what was used in their place.
+    pub fn budgets(&mut self) -> Result<Vec<u32>, Fault> {
+        match self.uses.take() {
+            Some(uses) if self.lists[BUDGET].is_none() => uses,
+            _ => self.list(BUDGET, "'budget', or else 'use',"),
+        }
+    }
+
+    fn list(&mut self, which: usize, name: &str) -> Result<Vec<u32>, Fault> {
+        let list = self.lists[which].take();
+        list.ok_or_else(|| self.lacks(format!("a table with the column {name}")))
+    }
+
+    /// When the frames begin, if the text has clock times.
+    pub fn times(&self) -> Option<Times> {
+        self.order.times()
+    }
+
+    /// The fault of a text whose first frame begins at another time of the day than this.
+    pub fn begins_unlike(&self, asked: Moment) -> Option<Fault> {
+        self.order.begins_unlike(asked)
     }
 
     /// The list of a bound; where the text has no such column, none of so many frames has it.
@@ -70,11 +102,6 @@ impl Sheet {
             None => Fault::at_end(self.end_line, expected),
         }
     }
-}
-
-fn column_name(list: usize) -> &'static str {
-    let named = COLUMNS.iter().find(|(_, kind)| *kind == Kind::List(list));
-    named.map_or("", |(name, _)| name)
 }
 
 /// Reads a text.
@@ -102,8 +129,8 @@ pub fn parse(text: &str) -> Result<Sheet, Fault> {
 fn closed(line: &Line<'_>, separator: Option<Separator>) -> Result<(), Fault> {
     match line.stray_quote(separator) {
         None => Ok(()),
-        Some(row) if row.cells.is_empty() => Err(unlike(&row, 0, "a closing double quote")),
-        Some(row) => Err(unlike(&row, 0, "a double quote only before and behind a whole cell")),
+        Some(row) if row.cells.is_empty() => Err(row.unlike(0, "a closing double quote")),
+        Some(row) => Err(row.unlike(0, "a double quote only before and behind a whole cell")),
     }
 }
 
@@ -119,7 +146,7 @@ fn is_figure(cell: &Cell<'_>) -> Option<usize> {
 fn put_figure(sheet: &mut Sheet, which: usize, line: &Row<'_>) -> Result<(), Fault> {
     if let Some((_, before)) = sheet.figures[which] {
         let expected = format!("'{}' once (it stands in line {before})", FIGURES[which]);
-        return Err(unlike(line, 0, &expected));
+        return Err(line.unlike(0, &expected));
     }
     sheet.figures[which] = Some((number(line, 1)?, line.line));
     ends(line, 2)
@@ -152,16 +179,17 @@ fn open_table(sheet: &mut Sheet, line: &Line<'_>) -> Result<Table, Fault> {
     for (i, cell) in names.cells.iter().enumerate() {
         match column_of(cell) {
             Some(place) if !places.contains(&place) => places.push(place),
-            _ => return Err(unlike(&names, i, &expected_name(i == 0, &places))),
+            _ => return Err(names.unlike(i, &expected_name(i == 0, &places))),
         }
     }
-    sheet.table = Some(unlike(&names, 0, ""));
+    sheet.table = Some(names.unlike(0, ""));
     let columns: Vec<Kind> = places.into_iter().map(|place| COLUMNS[place].1).collect();
     for column in &columns {
         match column {
             Kind::List(list) => sheet.lists[*list] = Some(Vec::new()),
             Kind::Bound(bound) => sheet.bounds[*bound as usize] = Some(Vec::new()),
-            Kind::Skipped => {}
+            Kind::Use => sheet.uses = Some(Ok(Vec::new())),
+            Kind::Number | Kind::Time | Kind::Skipped => {}
         }
     }
     Ok(Table {
@@ -192,20 +220,20 @@ fn put_frames<'a>(sheet: &mut Sheet, table: &Table, lines: impl Iterator<Item = 
         sure(line.doubtful_cell(table.separator))?;
         let row = line.cells(table.separator);
         if line.is_empty_row(table.separator) {
-            gap = gap.or_else(|| Some(unlike(&row, 0, "a frame")));
+            gap = gap.or_else(|| Some(row.unlike(0, "a frame")));
         } else if !line.is_blank() {
             gap.take().map_or(Ok(()), Err)?;
             put_frame(sheet, table, &row)?;
         }
     }
-    Ok(())
+    sheet.order.close()
 }
 
 /// A comment that may be meant as a number is a fault: a spreadsheet's `#N/A` must not be passed over.
 fn sure(doubtful: Option<Row<'_>>) -> Result<(), Fault> {
     match doubtful {
         None => Ok(()),
-        Some(row) => Err(unlike(&row, 0, "a cell, or a comment with a blank behind its '#',")),
+        Some(row) => Err(row.unlike(0, "a cell, or a comment with a blank behind its '#',")),
     }
 }
 
@@ -219,27 +247,49 @@ fn put_frame(sheet: &mut Sheet, table: &Table, row: &Row<'_>) -> Result<(), Faul
         } else {
             String::new()
         };
-        return Err(unlike(row, row.cells.len(), &format!("a cell for each column{none}")));
+        return Err(row.unlike(row.cells.len(), &format!("a cell for each column{none}")));
     }
     for (i, column) in columns.iter().enumerate() {
-        let (list, value) = match column {
-            Kind::List(list) => (&mut sheet.lists[*list], number(row, i)?),
-            Kind::Bound(bound) => (&mut sheet.bounds[*bound as usize], limit(row, i, *bound)?),
-            Kind::Skipped => continue,
-        };
-        list.get_or_insert_with(Vec::new).push(value);
+        put_cell(sheet, *column, row, i)?;
     }
     if row.cells.len() > table.width {
         let expected = match table.separator {
             Separator::Blanks => END_OF_LINE,
             Separator::Character(_) => "no more separators than in the table's first line",
         };
-        return Err(unlike(row, table.width, expected));
+        return Err(row.unlike(table.width, expected));
     }
     let behind = |(i, cell): &(usize, &Cell)| *i >= columns.len() && !cell.text.is_empty();
     match row.cells.iter().enumerate().find(behind) {
         None => Ok(()),
-        Some((i, _)) => Err(unlike(row, i, END_OF_LINE)),
+        Some((i, _)) => Err(row.unlike(i, END_OF_LINE)),
+    }
+}
+
+/// Puts a cell where its column belongs.
+fn put_cell(sheet: &mut Sheet, column: Kind, row: &Row<'_>, i: usize) -> Result<(), Fault> {
+    let (list, value) = match column {
+        Kind::List(list) => (&mut sheet.lists[list], number(row, i)?),
+        Kind::Bound(bound) => (&mut sheet.bounds[bound as usize], limit(row, i, bound)?),
+        Kind::Number => return sheet.order.number(row, i),
+        Kind::Time => return sheet.order.time(row, i),
+        Kind::Use => {
+            put_use(&mut sheet.uses, number(row, i));
+            return Ok(());
+        }
+        Kind::Skipped => return Ok(()),
+    };
+    list.get_or_insert_with(Vec::new).push(value);
+    Ok(())
+}
+
+/// Puts what was used behind the others; the first that is no number stands for all.
+fn put_use(uses: &mut Option<Result<Vec<u32>, Fault>>, found: Result<u32, Fault>) {
+    if let Some(Ok(list)) = uses {
+        match found {
+            Ok(used) => list.push(used),
+            Err(fault) => *uses = Some(Err(fault)),
+        }
     }
 }
 
@@ -263,18 +313,17 @@ pub fn bare_numbers(text: &str) -> Result<Option<Vec<u32>>, Fault> {
 }
 
 /// The whole number in a line's cell.
-fn number(line: &Row<'_>, i: usize) -> Result<u32, Fault> {
-    let text = line.cells.get(i).map_or("", |cell| cell.text);
-    whole_number(text).ok_or_else(|| unlike(line, i, &format!("a whole number up to {}", u32::MAX)))
+pub fn number(line: &Row<'_>, i: usize) -> Result<u32, Fault> {
+    whole_number(line.text(i)).ok_or_else(|| line.unlike(i, &format!("a whole number up to {}", u32::MAX)))
 }
 
 /// The bound in a line's cell, as a list has it; where the cell is empty or missing, the frame does not have it.
 fn limit(line: &Row<'_>, i: usize, bound: Bound) -> Result<u32, Fault> {
-    let text = line.cells.get(i).map_or("", |cell| cell.text);
+    let text = line.text(i);
     if text.is_empty() || text == NO_BOUND {
         return Ok(bound.absent());
     }
-    whole_number(text).ok_or_else(|| unlike(line, i, &format!("a whole number up to {} or '{NO_BOUND}'", u32::MAX)))
+    whole_number(text).ok_or_else(|| line.unlike(i, &format!("a whole number up to {} or '{NO_BOUND}'", u32::MAX)))
 }
 
 /// The whole number of 32 bits that a text is, digits alone.
@@ -287,22 +336,7 @@ pub fn whole_number(text: &str) -> Option<u32> {
 fn ends(line: &Row<'_>, cells: usize) -> Result<(), Fault> {
     match line.cells.get(cells) {
         None => Ok(()),
-        Some(_) => Err(unlike(line, cells, END_OF_LINE)),
-    }
-}
-
-/// The fault of a line's cell.
-fn unlike(line: &Row<'_>, i: usize, expected: &str) -> Fault {
-    let (column, found) = match line.cells.get(i) {
-        Some(Cell { column, text: "" }) => (*column, "nothing".to_string()),
-        Some(Cell { column, text }) => (*column, quoted(text)),
-        None => (line.end, END_OF_LINE.to_string()),
-    };
-    Fault {
-        line: line.line,
-        column,
-        expected: expected.to_string(),
-        found,
+        Some(_) => Err(line.unlike(cells, END_OF_LINE)),
     }
 }
 
@@ -314,19 +348,19 @@ mod tests {
 
     fn said(text: &str) -> ([Option<u32>; FIGURES.len()], Vec<u32>) {
         let mut sheet = parse(text).unwrap();
-        let harvest = sheet.list(HARVEST).unwrap();
+        let harvest = sheet.harvest().unwrap();
         (sheet.figures(), harvest)
     }
 
     /// The leasts and the mosts of a text.
     fn bounds(text: &str) -> [Vec<u32>; 2] {
         let mut sheet = parse(text).unwrap();
-        let frames = sheet.list(HARVEST).unwrap().len();
+        let frames = sheet.harvest().unwrap().len();
         Bound::ALL.map(|bound| sheet.bounds(bound, frames))
     }
 
     fn fault(text: &str) -> String {
-        let listed = parse(text).and_then(|mut sheet| sheet.list(HARVEST));
+        let listed = parse(text).and_then(|mut sheet| sheet.harvest());
         listed.unwrap_err().to_string()
     }
 
@@ -347,7 +381,7 @@ mod tests {
             assert_eq!(said(text), day, "{text:?}");
         }
         assert_eq!(said("harvest\n"), ([None; FIGURES.len()], vec![]));
-        assert_eq!(said("#capacity 7\ntime\tharvest #a\n\"6 h\"\t6 #b\n# noon\n").1, [6]);
+        assert_eq!(said("#capacity 7\ntime\tharvest #a\n\"now\"\t6 #b\n# noon\n").1, [6]);
         assert_eq!(said("frame harvest\n1 6 #noon\n\n2 4\n").1, [6, 4]);
         assert_eq!(said("\"\"\n\"harvest\",\"\"\n\"6\",\"\"\n\"\",\"\"\n").1, [6]);
         assert_eq!(said("\"capacity\",\"5\",\"\"\n\tharvest\n\t6\n").1, [6]);
@@ -429,30 +463,30 @@ mod tests {
         assert_eq!(fault("harvest;time\n6,5;"), format!("2:1: {number} '6,5'"));
         assert_eq!(fault("harvest,time\n1 000,"), format!("2:1: {number} '1 000'"));
         assert_eq!(fault("harvest\n1,000"), format!("2:1: {number} '1,000'"));
-        assert_eq!(fault("time;harvest\n12,30;"), format!("2:7: {number} nothing"));
+        assert_eq!(fault("loss;harvest\n12,30;"), format!("2:7: {number} nothing"));
         assert_eq!(
             fault("time\tharvest\tuse\n06:00\t\t5"),
             format!("2:7: {number} nothing")
         );
         // A spreadsheet's error is no comment.
         let cell = "a cell, or a comment with a blank behind its '#', is expected, found";
-        assert_eq!(fault("harvest,time\n6,6 h\n#N/A,7 h\n"), format!("3:1: {cell} '#N/A'"));
-        assert_eq!(fault("harvest,time\n6,6 h\n#,7 h\n"), format!("3:1: {cell} '#'"));
-        assert_eq!(fault("time, harvest\n6 h, 6\n, #N/A\n"), format!("3:3: {cell} '#N/A'"));
-        assert_eq!(fault("time,harvest\n7 h,#N/A\n"), format!("2:5: {number} '#N/A'"));
+        assert_eq!(fault("harvest,time\n6,now\n#N/A,due\n"), format!("3:1: {cell} '#N/A'"));
+        assert_eq!(fault("harvest,time\n6,now\n#,due\n"), format!("3:1: {cell} '#'"));
+        assert_eq!(fault("time, harvest\nnow, 6\n, #N/A\n"), format!("3:3: {cell} '#N/A'"));
+        assert_eq!(fault("time,harvest\ndue,#N/A\n"), format!("2:5: {number} '#N/A'"));
         assert_eq!(fault("harvest\n6\n###\n"), format!("3:1: {cell} '###'"));
         // No cell and no frame is passed over.
         let each = "a cell for each column is expected, found the end of the line";
         assert_eq!(fault("frame harvest use\n1 6 3\n2   3\n"), format!("3:6: {each}"));
         assert_eq!(fault("harvest use\n\"\" 3\n"), format!("2:1: {number} nothing"));
         assert_eq!(
-            fault("time,harvest,use\n6 h,1,000,\n"),
+            fault("time,harvest,use\nnow,1,000,\n"),
             "2:11: no more separators than in the table's first line is expected, found nothing"
         );
         let frame = "a frame is expected, found nothing";
         assert_eq!(fault("harvest,use\n6,1\n,\n4,2\n"), format!("3:1: {frame}"));
         assert_eq!(
-            fault("harvest\ttime\n6\t6 h\n\t\n4\t7 h\n").split(':').next(),
+            fault("harvest\ttime\n6\tnow\n\t\n4\tdue\n").split(':').next(),
             Some("3")
         );
         assert_eq!(fault("harvest\n6\n\"\"\n4\n"), format!("3:1: {number} nothing"));
@@ -468,12 +502,12 @@ mod tests {
         );
         assert_eq!(fault("harvest\t\n6\t\n\t7\n"), format!("3:1: {number} nothing"));
         let names =
-            "a figure (capacity, start, end) or a column (harvest, least, most, budget, frame, time, charge, use, loss)";
+            "a figure (capacity, start, end) or a column (frame, time, harvest, least, most, budget, use, charge, loss)";
         assert_eq!(fault("harvst\n6"), format!("1:1: {names} is expected, found 'harvst'"));
         assert_eq!(fault("5\n6"), format!("1:1: {names} is expected, found '5'"));
         assert_eq!(
             fault("harvest,harvest\n"),
-            "1:9: a column (least, most, budget, frame, time, charge, use, loss) is expected, found 'harvest'"
+            "1:9: a column (frame, time, least, most, budget, use, charge, loss) is expected, found 'harvest'"
         );
         let table = "a table with the column 'harvest' is expected, found the end of the text";
         assert_eq!(fault(""), format!("1:1: {table}"));

@@ -1,8 +1,11 @@
 //! The built program, run as a person would run it, in a folder of its own.
 #![allow(dead_code)] // each test file uses a part
 
-use energy::{Energy, Figures, Frames, Shift, Totals, NO_UPPER_END};
+pub mod clock;
+
+use energy::{Energy, Figures, Frames, Rest, Shift, Totals, Verdict, NO_UPPER_END};
 use evidence::lists::Lists;
+use evidence::reference::logbook::Logbook;
 use evidence::reference::Reference;
 use proptest::prelude::*;
 use proptest::test_runner::{RngAlgorithm, TestRng, TestRunner};
@@ -12,6 +15,9 @@ use std::os::unix::fs::{MetadataExt, PermissionsExt};
 use std::os::unix::process::CommandExt;
 use std::path::{Path, PathBuf};
 use std::process::{Command, Output, Stdio};
+
+/// The variable of a default journal, of which tests have none unless they say so.
+pub const JOURNAL: &str = "GOMZHIVA_JOURNAL";
 
 /// Document 01's request as text.
 pub const DAY: &str = "capacity 5\nstart 2\nend 2\nharvest\n6\n4\n0\n0\n5\n5\n";
@@ -31,6 +37,37 @@ pub fn day_words() -> Vec<u8> {
         6 | 3 << 30,
     ];
     words.iter().flat_map(|word: &u32| word.to_le_bytes()).collect()
+}
+
+/// Every command that reads a request; of those with other files, `budgets` are as many as its frames.
+pub const REQUEST_READERS: [&str; 10] = [
+    "plan FILE",
+    "plan --csv FILE",
+    "plan --listing FILE",
+    "plan FILE --chart out.svg",
+    "plan --without-leasts FILE",
+    "needed FILE",
+    "words FILE out",
+    "text FILE out",
+    "trace FILE budgets",
+    "shift start FILE --journal out",
+];
+/// Every command that reads budgets; `day.txt` is a request of as many frames.
+pub const BUDGET_READERS: [&str; 2] = ["trace day.txt FILE", "grade FILE"];
+
+/// Every command on a journal that is there, without its name.
+pub const ON_JOURNAL: [&[&str]; 5] = [
+    &["shift", "show"],
+    &["shift", "show", "--csv"],
+    &["shift", "plan"],
+    &["shift", "chart"],
+    &RECORD,
+];
+pub const RECORD: [&str; 4] = ["shift", "record", "0", "0"];
+
+/// The arguments of a command on this journal.
+pub fn on<'a>(command: &[&'a str], journal: &'a str) -> Vec<&'a str> {
+    [command, &["--journal", journal]].concat()
 }
 
 /// A request without bounds as text, as `text` prints it.
@@ -109,28 +146,109 @@ pub fn standing(shift: &Shift) -> String {
     )
 }
 
-/// The table of budgets as CSV, with the reference's charges and losses; its first frame is the one after `before`.
+/// What the logbook's shift says behind its standing: the budget of the next frame, and nothing at its end.
+pub fn next(logbook: &Logbook, frames: Frames) -> String {
+    let (mut budgets, next) = (vec![0; frames.harvest.len()], recorded(logbook));
+    let short = match logbook.plan_rest(frames, &mut budgets) {
+        Err(_) => return String::new(),
+        Ok(Rest::Planned) => String::new(),
+        Ok(Rest::Short { missing: 0 }) => "; the rest is short: nothing within its bounds is feasible".to_string(),
+        Ok(Rest::Short { missing }) => format!("; the rest is short by {missing} Wh"),
+    };
+    format!(
+        "Next: a budget of {} Wh for frame {}{short}.\n",
+        budgets[next],
+        next + 1
+    )
+}
+
+/// What is told of a use that is recorded as the logbook's next frame: its bound before its budget, one sentence at most.
+pub fn doubt(before: &Logbook, frames: Frames, used: u32) -> String {
+    let (mut budgets, next) = (vec![0; frames.harvest.len()], recorded(before));
+    let rest = before.plan_rest(frames, &mut budgets).expect("a frame is left");
+    let (least, most, budget) = (frames.least[next], frames.most[next], budgets[next]);
+    let beyond = if used < least {
+        format!("below the least of {least} Wh")
+    } else if used > most {
+        format!("above the most of {most} Wh")
+    } else if rest == Rest::Planned && u64::from(used) > 2 * u64::from(budget) {
+        format!("more than twice the budget of {budget} Wh")
+    } else {
+        return String::new();
+    };
+    let frame = next + 1;
+    format!("gomzhiva: the use of {used} Wh is {beyond} of frame {frame}; it is recorded all the same\n")
+}
+
+fn recorded(logbook: &Logbook) -> usize {
+    logbook.record_now().now.recorded as usize
+}
+
+/// The figures of what is left of a shift.
+pub fn figures_now(shift: &Shift) -> Figures {
+    Figures {
+        capacity: shift.terms.capacity,
+        start: shift.now.charge,
+        end: shift.terms.end,
+    }
+}
+
+/// The sentence of a rest that is short: what the end charge misses, or that it is reached.
+pub fn short(shift: &Shift, missing: u64) -> String {
+    let left = match shift.terms.frames - shift.now.recorded {
+        1 => "1 frame left".to_string(),
+        several => format!("{several} frames left"),
+    };
+    let (end, zeros) = (
+        format!("the end charge of {} Wh", shift.terms.end),
+        "so every budget is 0",
+    );
+    match missing {
+        0 => format!(
+            "Short: nothing within the bounds of the {left} is feasible, {zeros}; with nothing used, {end} is reached.\n"
+        ),
+        _ => format!("Short: with nothing used in the {left}, {end} is still missed by {missing} Wh, {zeros}.\n"),
+    }
+}
+
+/// How the leasts as budgets fail behind so many recorded frames: where they run the store dry, and else what they leave.
+pub fn leasts_fail(before: usize, figures: Figures, frames: Frames) -> String {
+    let (mut charges, mut losses) = (vec![0; frames.harvest.len()], vec![0; frames.harvest.len()]);
+    let traced = Reference.trace(figures, frames.harvest, frames.least, &mut charges, &mut losses);
+    assert_ne!(traced, Ok(Verdict::Feasible));
+    match charges.iter().position(|&charge| charge < 0) {
+        Some(frame) => {
+            let (number, missing) = (before + frame + 1, -charges[frame]);
+            format!("run the store dry in frame {number}, with {missing} Wh missing there")
+        }
+        None => format!(
+            "leave {} Wh, and {} Wh were asked for",
+            charges.last().expect("a frame"),
+            figures.end
+        ),
+    }
+}
+
+/// The table of budgets behind so many recorded frames as CSV, with the bounds of all frames and the reference's charges and
+/// losses; the figures' start charge is the one before the first of its frames.
 pub fn budget_table(before: u32, figures: Figures, frames: Frames, budgets: &[u32]) -> String {
-    let (harvest, bounds) = (frames.harvest, Bounds::of(frames));
+    let (first, bounds) = (before as usize, Bounds::of(frames));
+    let (harvest, budgets) = (&frames.harvest[first..], &budgets[first..]);
     let (mut charges, mut losses) = (vec![0; harvest.len()], vec![0; harvest.len()]);
     let traced = Reference.trace(figures, harvest, budgets, &mut charges, &mut losses);
     traced.expect("budgets that can be traced");
     let mut text = format!("frame,harvest{},budget,charge,loss\n", bounds.names(","));
-    for (i, frame) in (0..harvest.len()).zip(before + 1..) {
-        let given = format!("{}{}", harvest[i], bounds.cells(i, ",", ""));
-        text += &format!("{frame},{given},{},{},{}\n", budgets[i], charges[i], losses[i]);
+    for i in 0..harvest.len() {
+        let given = format!("{}{}", harvest[i], bounds.cells(first + i, ",", ""));
+        text += &format!("{},{given},", first + i + 1);
+        text += &format!("{},{},{}\n", budgets[i], charges[i], losses[i]);
     }
     text
 }
 
-/// The frames that lead from each record to the next, as `shift show --csv` prints them.
+/// The frames that lead from each record to the next, with the bounds of all frames, as `shift show --csv` prints them.
 pub fn recorded_table(records: &[Shift], frames: Frames) -> String {
-    let count = records.len() - 1;
-    let bounds = Bounds::of(Frames {
-        harvest: &frames.harvest[..count],
-        least: &frames.least[..count],
-        most: &frames.most[..count],
-    });
+    let bounds = Bounds::of(frames);
     let mut text = format!("frame,harvest{},use,charge,loss\n", bounds.names(","));
     for (frame, pair) in records.windows(2).enumerate() {
         let (old, new) = (pair[0].now.totals, pair[1].now.totals);
@@ -194,6 +312,13 @@ impl Folder {
         Folder(tempfile::tempdir().expect("a temporary folder"))
     }
 
+    /// One with document 01's request.
+    pub fn of_the_day() -> Folder {
+        let folder = Folder::new();
+        folder.write("day.txt", DAY);
+        folder
+    }
+
     pub fn path(&self) -> &Path {
         self.0.path()
     }
@@ -223,7 +348,7 @@ impl Folder {
     /// The program with these arguments, to be run in the folder.
     pub fn command(&self, arguments: &[&str]) -> Command {
         let mut command = Command::new(env!("CARGO_BIN_EXE_gomzhiva"));
-        command.args(arguments).current_dir(self.path());
+        command.args(arguments).current_dir(self.path()).env_remove(JOURNAL);
         command
     }
 
@@ -274,6 +399,46 @@ impl Folder {
     /// Runs the program without input.
     pub fn run(&self, arguments: &[&str]) -> Ran {
         self.run_with(arguments, b"")
+    }
+
+    /// Runs the program with the arguments of a line, which blanks part, without input.
+    pub fn line(&self, line: &str) -> Ran {
+        self.line_with(line, "")
+    }
+
+    /// The same with this on standard input.
+    pub fn line_with(&self, line: &str, input: impl AsRef<[u8]>) -> Ran {
+        self.run_with(&line.split_whitespace().collect::<Vec<_>>(), input.as_ref())
+    }
+
+    /// What a line of arguments prints, which is done.
+    pub fn out(&self, line: &str) -> String {
+        self.out_with(line, "")
+    }
+
+    /// The same with this on standard input.
+    pub fn out_with(&self, line: &str, input: impl AsRef<[u8]>) -> String {
+        let ran = self.line_with(line, input);
+        assert_eq!(ran.status, Some(0), "{line}: {}", ran.err);
+        ran.text()
+    }
+
+    /// What `--help` prints of a command.
+    pub fn help(&self, command: &str) -> String {
+        let ran = self.line(&format!("{command} --help"));
+        assert_eq!((ran.status, ran.err.as_str()), (Some(0), ""), "{command}");
+        ran.text()
+    }
+
+    /// A command and every one under it, as the help lists them; the program itself has no name.
+    pub fn commands(&self, command: &str) -> Vec<String> {
+        let help = self.help(command);
+        let list = help.lines().skip_while(|line| *line != "Commands:").skip(1);
+        let names = list.map_while(|line| line.split_whitespace().next());
+        let under = names
+            .filter(|name| *name != "help")
+            .flat_map(|name| self.commands(format!("{command} {name}").trim()));
+        [command.to_string()].into_iter().chain(under).collect()
     }
 
     /// Runs the program with these bytes on standard input.
