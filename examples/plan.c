@@ -1,4 +1,4 @@
-/* Plans document 01's request, records a frame that went otherwise, and plans the rest again.
+/* Plans a request, records a frame that went otherwise, and plans the rest again.
  * Build: cc -Iinclude examples/plan.c crates/energy/out/libenergy.a -o target/plan_c */
 #include <inttypes.h>
 #include <stdio.h>

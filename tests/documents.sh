@@ -152,4 +152,38 @@ check 'rust/cargo: the crates that Cargo.toml names' "$foreign" "$(listed_in rus
 check 'tools/install: the crates that Cargo.toml names' "$(sed 's/-[0-9.]*$//; s/_/-/g' <<<"$foreign" | sort)" \
     "$(listed_in tools/install | sed 's/+.*//' | sort)"
 
+# ---- the header: its refusals are those of the core and of the Rust binding, its house curves the definitions', its version the packages'
+
+# as_in_c: names of cases as C has them: NoFrames is NO_FRAMES
+as_in_c() { sed -E 's/([a-z])([A-Z])/\1_\2/g' | tr '[:lower:]' '[:upper:]'; }
+# cases_of FILE: the cases of the enum Refusal, one a line, with what they hold
+cases_of() { sed -nE '/^pub enum Refusal/,/^}/s/^    ([A-Z].*)$/\1/p' "$1"; }
+# defined: the header's refusals, with their numbers, and with 'p' where the comment above says what p is
+defined() {
+    awk '/^\/\*/ { above = "" }
+        { above = above $0 }
+        /^#define ENERGY_REFUSED_/ { print substr($2, 16), $3, above ~ /; p is / ? "p" : "0"; above = "" }' include/energy.h
+}
+core=crates/model/src/refusal.rt
+check 'header: the refusals and their numbers' "$(sed -nE 's/^ *Refusal::([A-Za-z]+)(\(_\))? => ([0-9]+),$/\1 \3/p' $core | as_in_c)" \
+    "$(defined | cut -d' ' -f1,2)"
+check 'header: the refusals in the order of their cases' "$(cases_of $core | grep -o '^[A-Za-z]*' | as_in_c)" "$(defined | cut -d' ' -f1)"
+check 'header: the refusals that have a p' "$(cases_of $core | sed -n 's/(u64),$//p' | as_in_c)" "$(defined | sed -n 's/ [0-9]* p$//p')"
+check 'rust/energy: the refusals of the core' "$(cases_of $core | grep -o '^[A-Za-z]*')" \
+    "$(cases_of rust/energy/src/refusal.rs | grep -o '^[A-Za-z]*' | grep -vx Unknown)"
+
+# house_curve N: each gain and the edge up to which a unit has it, as the definitions have them, and as the header's comment has them
+house_curve() {
+    sed -nE '/^house_curve /s/.*edges = ([0-9 ∷]*)\[\]; gains = ([0-9 ∷]*)\[\].*/\1\n\2/p' crates/model/specs/Curves.antt | tr -d '∷' | sed -n "$((2 * $1 + 1)),$((2 * $1 + 2))p" |
+        awk 'NR == 1 { n = split($0, edges) } NR == 2 { split($0, gains); for (i = 1; i <= n; i++) printf "%d %d ", gains[i], edges[i]; print gains[n + 1] }'
+}
+for curve in 0 1 2; do
+    check "header: house curve $curve" "$(house_curve $curve)" "$(sed -nE "s/^ \* ([0-9].*) above, by house curve $curve.*/\1/p" include/energy.h | sed 's/ up to / /g; s/,//g')"
+done
+
+version=$(sed -nE 's/^#define ENERGY_VERSION_(MAJOR|MINOR|PATCH) ([0-9]+)$/\2/p' include/energy.h | paste -sd .)
+for package in rust/*/Cargo.toml; do
+    check "$package: the version of the header" "$version" "$(sed -n 's/^version = "\(.*\)"$/\1/p' "$package")"
+done
+
 finish documents.sh

@@ -160,7 +160,8 @@ static void file(void)
     back = energy_read(bytes, written.bytes, harvests, 6, leasts, 5, mosts, 6);
     refusal("\nread", back.refusal);
     size_t listed = energy_listing(bytes, written.bytes, text, sizeof text);
-    printf("\nlisting: %zu\n%.*s", listed, (int)listed, (const char *)text);
+    printf("\nlisting: %zu, NUL in it: %d\n%.*s", listed, memchr(text, 0, listed) != NULL, (int)listed,
+           (const char *)text);
 }
 
 static void files(void)
@@ -177,11 +178,19 @@ static void files(void)
     printf("\n");
 }
 
+/* Tells how large a shift's record is and how large its numbers are together: without room between them it may be kept as
+ * its bytes. */
+static void sizes(void)
+{
+    printf("shift: %zu bytes, %zu of numbers\n", sizeof(struct EnergyShift), 6 * sizeof(uint32_t) + 3 * sizeof(uint64_t));
+}
+
 int main(void)
 {
     planning();
     tracing();
     shift();
+    sizes();
     files();
     return 0;
 }

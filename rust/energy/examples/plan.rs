@@ -1,7 +1,8 @@
-//! Plans document 01's request, records a frame that went otherwise, and plans the rest again.
+//! Plans a request, records a frame that went otherwise, and plans the rest again.
 //! Run: `rust/cargo run -p energy --example plan`, after `tools/library`.
 
-use energy::{Energy, Figures, Frames, Linked, Refusal};
+use energy::{Figures, Frames};
+use std::error::Error;
 
 /// Prints a label and the budgets.
 fn print_budgets(label: &str, budgets: &[u32]) {
@@ -10,29 +11,25 @@ fn print_budgets(label: &str, budgets: &[u32]) {
 }
 
 /// The plan, the needed capacity, and the rest after the first frame.
-fn run() -> Result<(), Refusal> {
+fn run() -> Result<(), Box<dyn Error>> {
     let figures = Figures {
         capacity: 5,
         start: 2,
         end: 2,
     };
     let frames = Frames::unbounded(&[6, 4, 0, 0, 5, 5]);
-    let mut budgets = [0; 6];
+    print_budgets("plan", &energy::plan(figures, frames)?);
+    println!("needed: {}", energy::needed(figures, frames)?);
 
-    Linked.plan(figures, frames, &mut budgets)?;
-    print_budgets("plan", &budgets);
-    println!("needed: {}", Linked.needed(figures, frames)?);
-
-    let shift = Linked.shift_start(figures, frames)?;
-    let shift = Linked.shift_record(shift, 1, 3)?;
-    Linked.shift_plan_rest(shift, frames, &mut budgets)?;
-    print_budgets("rest", Linked.shift_rest_part(shift, &budgets)?);
+    let shift = energy::start(figures, frames)?;
+    let shift = energy::record(shift, 1, 3)?;
+    print_budgets("rest", &energy::plan_rest(shift, frames)?.budgets);
     Ok(())
 }
 
 fn main() {
-    if let Err(refusal) = run() {
-        println!("{refusal}");
+    if let Err(error) = run() {
+        eprintln!("{error}");
         std::process::exit(1);
     }
 }

@@ -1,9 +1,27 @@
-//! The public calls of the planner as one trait, so that every implementation is tested in the same way.
+//! The calls as one trait, so that every implementation is called and tested in the same way.
 
-use crate::answers::{Figures, Frames, Header, NotRecorded, Rest, Shift, Verdict};
+use crate::answers::{Figures, Header, NotRecorded, Rest, Shift, Verdict};
+use crate::frames::Frames;
 use crate::refusal::Refusal;
 
-/// Document 01's entries. A lent list is altered only where the call is accepted.
+/// The planner's calls with lists that the caller lends, for whoever has several implementations or must not allocate. The
+/// functions [`start`](crate::start), [`record`](crate::record) and [`plan_rest`](crate::plan_rest) are its `shift_start`,
+/// `shift_record` and `shift_plan_rest`; the other ones have its names.
+///
+/// ```
+/// use energy::{Energy, Figures, Frames, Linked};
+///
+/// let figures = Figures { capacity: 5, start: 2, end: 2 };
+/// let mut budgets = [0; 6];
+/// Linked.plan(figures, Frames::unbounded(&[6, 4, 0, 0, 5, 5]), &mut budgets)?;
+/// assert_eq!(budgets, [4, 3, 3, 2, 4, 4]);
+/// # Ok::<(), energy::Refusal>(())
+/// ```
+///
+/// # Errors
+///
+/// Each call is refused as its function is, and by 7 also where a list that it writes does not fit: in the place of 7, in
+/// `read` behind all else. A refused call alters no list.
 pub trait Energy {
     /// What the implementation is called in messages and tables.
     fn name(&self) -> &'static str;
@@ -38,6 +56,10 @@ pub trait Energy {
     fn shift_plan_rest(&self, shift: Shift, frames: Frames, budgets: &mut [u32]) -> Result<Rest, Refusal>;
 
     /// The part of the budgets that begins at the next frame.
+    ///
+    /// # Errors
+    ///
+    /// Refused by 22, 7 or 20, the numbers of [`Refusal`]: the first that holds.
     fn shift_rest_part<'a>(&self, shift: Shift, budgets: &'a [u32]) -> Result<&'a [u32], Refusal>;
 
     /// Reads a word file into three lists; what is beyond its frames keeps its values.

@@ -1,12 +1,13 @@
 //! `libenergy.a` behind the trait `Energy`: each C function called with lists that are valid, and its answer as a Rust type.
 
-use crate::answers::{Figures, Frames, Header, NotRecorded, Rest, Shift, Verdict};
+use crate::answers::{Figures, Header, NotRecorded, Rest, Shift, Verdict};
+use crate::frames::Frames;
 use crate::interface::Energy;
 use crate::raw;
 use crate::refusal::Refusal;
 
 /// The proved library.
-#[derive(Clone, Copy, Debug)]
+#[derive(Clone, Copy, Debug, Default, PartialEq, Eq, Hash)]
 pub struct Linked;
 
 /// The refusal of an answer, or nothing if it is accepted. An accepted answer's P is 0.
@@ -39,7 +40,7 @@ impl Energy for Linked {
         // SAFETY: all lists are valid for their lengths, and a mutable list overlaps no other.
         let answer = unsafe {
             raw::energy_plan(
-                figures,
+                figures.into(),
                 frames.harvest.as_ptr(),
                 frames.harvest.len(),
                 frames.least.as_ptr(),
@@ -57,7 +58,7 @@ impl Energy for Linked {
         // SAFETY: all lists are valid for their lengths.
         let answer = unsafe {
             raw::energy_needed(
-                figures,
+                figures.into(),
                 frames.harvest.as_ptr(),
                 frames.harvest.len(),
                 frames.least.as_ptr(),
@@ -80,7 +81,7 @@ impl Energy for Linked {
         // SAFETY: all lists are valid for their lengths, and a mutable list overlaps no other.
         let answer = unsafe {
             raw::energy_trace(
-                figures,
+                figures.into(),
                 harvest.as_ptr(),
                 harvest.len(),
                 budgets.as_ptr(),
@@ -109,7 +110,7 @@ impl Energy for Linked {
         // SAFETY: all lists are valid for their lengths.
         let answer = unsafe {
             raw::energy_shift_start(
-                figures,
+                figures.into(),
                 frames.harvest.as_ptr(),
                 frames.harvest.len(),
                 frames.least.as_ptr(),
@@ -118,13 +119,13 @@ impl Energy for Linked {
                 frames.most.len(),
             )
         };
-        accepted(answer.refusal, answer.shift)
+        accepted(answer.refusal, answer.shift).map(Shift::from)
     }
 
     fn shift_record(&self, shift: Shift, harvest: u32, used: u32) -> Result<Shift, NotRecorded> {
         // SAFETY: the call takes numbers alone.
-        let answer = unsafe { raw::energy_shift_record(shift, harvest, used) };
-        let shift = answer.shift;
+        let answer = unsafe { raw::energy_shift_record(shift.into(), harvest, used) };
+        let shift = Shift::from(answer.shift);
         match refused(answer.refusal) {
             None => Ok(shift),
             Some(refusal) => Err(NotRecorded { refusal, shift }),
@@ -135,7 +136,7 @@ impl Energy for Linked {
         // SAFETY: all lists are valid for their lengths, and a mutable list overlaps no other.
         let answer = unsafe {
             raw::energy_shift_plan_rest(
-                shift,
+                shift.into(),
                 frames.harvest.as_ptr(),
                 frames.harvest.len(),
                 frames.least.as_ptr(),
@@ -155,7 +156,7 @@ impl Energy for Linked {
 
     fn shift_rest_part<'a>(&self, shift: Shift, budgets: &'a [u32]) -> Result<&'a [u32], Refusal> {
         // SAFETY: the list is valid for its length.
-        let answer = unsafe { raw::energy_shift_rest_part(shift, budgets.as_ptr(), budgets.len()) };
+        let answer = unsafe { raw::energy_shift_rest_part(shift.into(), budgets.as_ptr(), budgets.len()) };
         accepted(answer.refusal, (answer.from, answer.length)).map(|(from, length)| &budgets[from..][..length])
     }
 
@@ -173,14 +174,14 @@ impl Energy for Linked {
                 most.len(),
             )
         };
-        accepted(answer.refusal, answer.header)
+        accepted(answer.refusal, answer.header).map(Header::from)
     }
 
     fn write(&self, figures: Figures, frames: Frames, file: &mut [u8]) -> Result<usize, Refusal> {
         // SAFETY: all lists are valid for their lengths, and a mutable list overlaps no other.
         let answer = unsafe {
             raw::energy_write(
-                figures,
+                figures.into(),
                 frames.harvest.as_ptr(),
                 frames.harvest.len(),
                 frames.least.as_ptr(),

@@ -1,5 +1,8 @@
 //! The declarations of include/energy.h, made by rust/energy/bindings: not written by hand.
 
+pub const ENERGY_VERSION_MAJOR: u32 = 0;
+pub const ENERGY_VERSION_MINOR: u32 = 2;
+pub const ENERGY_VERSION_PATCH: u32 = 0;
 pub const ENERGY_MAX_FRAMES: u32 = 672;
 pub const ENERGY_OTHER_WORDS: u32 = 4;
 pub const ENERGY_FRAME_WORDS: u32 = 3;
@@ -9,6 +12,21 @@ pub const ENERGY_MAX_HARVEST: u32 = 400000;
 pub const ENERGY_MAX_BOUND: u32 = 536870911;
 pub const ENERGY_NO_UPPER_END: u32 = 4294967295;
 pub const ENERGY_LISTING_BYTES: u32 = 22267;
+pub const ENERGY_ACCEPTED: u32 = 0;
+pub const ENERGY_REFUSED_NO_FRAMES: u32 = 1;
+pub const ENERGY_REFUSED_TOO_MANY_FRAMES: u32 = 2;
+pub const ENERGY_REFUSED_CAPACITY_ABOVE_LIMIT: u32 = 3;
+pub const ENERGY_REFUSED_START_ABOVE_CAPACITY: u32 = 4;
+pub const ENERGY_REFUSED_END_ABOVE_CAPACITY: u32 = 5;
+pub const ENERGY_REFUSED_HARVEST_ABOVE_LIMIT: u32 = 6;
+pub const ENERGY_REFUSED_WRONG_LENGTH: u32 = 7;
+pub const ENERGY_REFUSED_BAD_WORD: u32 = 8;
+pub const ENERGY_REFUSED_OUT_OF_REACH: u32 = 9;
+pub const ENERGY_REFUSED_BAD_BOUNDS: u32 = 10;
+pub const ENERGY_REFUSED_LEASTS_OUT_OF_REACH: u32 = 11;
+pub const ENERGY_REFUSED_ALL_RECORDED: u32 = 20;
+pub const ENERGY_REFUSED_USE_TOO_GREAT: u32 = 21;
+pub const ENERGY_REFUSED_NOT_SHIFT: u32 = 22;
 pub const ENERGY_FEASIBLE: u32 = 0;
 pub const ENERGY_END_TOO_LOW: u32 = 1;
 pub const ENERGY_BELOW_ZERO: u32 = 2;

@@ -108,7 +108,7 @@ fn answers(energy: &dyn Energy, figures: Figures, lists: &Lists) -> [Result<(), 
 
 #[test]
 fn leasts_that_are_not_feasible_are_refused() {
-    let refused = Err(Refusal::LeastsNotFeasible);
+    let refused = Err(Refusal::LeastsOutOfReach);
     for energy in with_reference() {
         let answers = |figures, lists: &Lists| answers(&*energy, figures, lists);
         let lists = bounded(&LISTING, &[(1, 9)], &[]);
@@ -153,7 +153,7 @@ fn the_needed_capacity_judges_leasts_beyond_the_largest_capacity() {
         .map(|(i, least)| (401 + i, least))
         .collect();
     let lists = bounded(&harvest, &leasts, &[]);
-    let refused = Err(Refusal::LeastsNotFeasible);
+    let refused = Err(Refusal::LeastsOutOfReach);
     for energy in with_reference() {
         let [planned, started, _] = answers(&*energy, full, &lists);
         assert_eq!([planned, started], [refused; 2], "{}", energy.name());
@@ -184,7 +184,7 @@ fn bad_bounds_are_refused_with_their_earliest_frame() {
         assert_eq!(answers(&[], &[(4, MAX_BOUND)]), [Ok(()); 3], "{name}");
         assert_eq!(
             answers(&[(3, MAX_BOUND)], &[]),
-            [Err(Refusal::LeastsNotFeasible); 3],
+            [Err(Refusal::LeastsOutOfReach); 3],
             "{name}"
         );
         assert_eq!(answers(&[(1, 3)], &[(1, 3)]), [Ok(()); 3], "{name}");
@@ -199,7 +199,7 @@ fn refusals_in_their_order() {
         let answers = |figures, lists: &Lists| answers(&*energy, figures, lists);
         let name = energy.name();
         let mut lists = bounded(&[1, MAX_HARVEST + 1], &[(1, 1)], &[(1, 0)]);
-        let refused = [Err(Refusal::HarvestOverLimit { frame: 2 }); 3];
+        let refused = [Err(Refusal::HarvestAboveLimit { frame: 2 }); 3];
         assert_eq!(answers(figures(9, 0, 9), &lists), refused, "{name}");
         lists.harvest[1] = 2;
         let refused = [Err(Refusal::BadBounds { frame: 1 }); 3];
@@ -209,7 +209,7 @@ fn refusals_in_their_order() {
         assert_eq!(answers(figures(9, 0, 9), &lists), missing(6), "{name}");
         assert_eq!(
             answers(figures(9, 0, 3), &lists),
-            [Err(Refusal::LeastsNotFeasible); 3],
+            [Err(Refusal::LeastsOutOfReach); 3],
             "{name}"
         );
         lists.most.pop();
@@ -218,7 +218,7 @@ fn refusals_in_their_order() {
         lists.most.extend([9, 9]);
         assert_eq!(answers(above, &lists), [Err(Refusal::WrongLength); 3], "{name}");
         lists.most.pop();
-        assert_eq!(answers(above, &lists), [Err(Refusal::CapacityOverLimit); 3], "{name}");
+        assert_eq!(answers(above, &lists), [Err(Refusal::CapacityAboveLimit); 3], "{name}");
         lists.least.pop();
         assert_eq!(answers(above, &lists), [Err(Refusal::WrongLength); 3], "{name}");
     }
@@ -272,7 +272,7 @@ fn bad_bounds_of_the_rest_are_refused() {
         );
         // 6 comes first, and 10 before short.
         let harvest = [1, 0, 0, 0, 0, MAX_HARVEST + 1];
-        let over = (Err(Refusal::HarvestOverLimit { frame: 6 }), kept.clone());
+        let over = (Err(Refusal::HarvestAboveLimit { frame: 6 }), kept.clone());
         assert_eq!(rest(&bounded(&harvest, &[(2, 2)], &[(2, 1)])), over, "{name}");
         assert_eq!(rest(&bounded(&[0; 6], &[(2, 2)], &[(2, 1)])), refused(2), "{name}");
         let wrong = (Err(Refusal::WrongLength), kept.clone());
@@ -373,7 +373,7 @@ fn bounds_in_a_file() {
                 most: vec![most],
             })
         };
-        let broken = |word| Err(Refusal::Malformed { word });
+        let broken = |word| Err(Refusal::BadWord { word });
         let name = energy.name();
         assert_eq!(read(&[HARVEST, END]), one(0, NO_UPPER_END), "{name}");
         assert_eq!(read(&[HARVEST, LEAST, END]), one(2, NO_UPPER_END), "{name}");

@@ -66,9 +66,9 @@ fn leasts(figures: Figures, lists: &Lists) -> String {
     let planned = Reference.plan(figures, lists.frames(), &mut vec![0; lists.count()]);
     let needed = Reference.needed(figures, lists.frames());
     match (planned, needed) {
-        (Err(Refusal::LeastsNotFeasible), Err(Refusal::LeastsNotFeasible)) => "of both".into(),
-        (Err(Refusal::LeastsNotFeasible), _) => "of planning alone".into(),
-        (_, Err(Refusal::LeastsNotFeasible)) => "of needed alone".into(),
+        (Err(Refusal::LeastsOutOfReach), Err(Refusal::LeastsOutOfReach)) => "of both".into(),
+        (Err(Refusal::LeastsOutOfReach), _) => "of planning alone".into(),
+        (_, Err(Refusal::LeastsOutOfReach)) => "of needed alone".into(),
         _ => "of none".into(),
     }
 }
@@ -137,7 +137,7 @@ fn answers(case: &Case) -> Vec<String> {
         Case::Read { file, rooms } => {
             let [mut harvest, mut least, mut most] = rooms.map(|room| vec![0; room]);
             let read = Reference.read(file, &mut harvest, &mut least, &mut most);
-            let too_long = file.len() <= MAX_FILE_BYTES && read == Err(Refusal::TooLong);
+            let too_long = file.len() <= MAX_FILE_BYTES && read == Err(Refusal::TooManyFrames);
             let frames = if too_long { "2 frames".into() } else { number(read) };
             let bounds = least.iter().any(|&least| least > 0) && most.iter().any(|&most| most != NO_UPPER_END);
             vec![if bounds { format!("{frames} bounds") } else { frames }]

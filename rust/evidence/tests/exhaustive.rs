@@ -59,7 +59,7 @@ fn reached(figures: Figures, frames: Frames) -> bool {
     let refused = refusals::plan(figures, frames, frames.harvest.len());
     let missed = matches!(
         refused,
-        Err(Refusal::OutOfReach { .. }) | Err(Refusal::LeastsNotFeasible)
+        Err(Refusal::OutOfReach { .. }) | Err(Refusal::LeastsOutOfReach)
     );
     assert!(refused.is_ok() || missed, "{refused:?}");
     refused.is_ok()

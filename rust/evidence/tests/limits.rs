@@ -363,20 +363,20 @@ fn files_of_too_many_frames() {
                 .map(|header| header.frames)
         };
         assert_eq!(frames(672, 2_704), Ok(672), "{}", energy.name());
-        assert_eq!(frames(673, 2_708), Err(Refusal::TooLong), "{}", energy.name());
+        assert_eq!(frames(673, 2_708), Err(Refusal::TooManyFrames), "{}", energy.name());
         assert_eq!(
             frames(673, 2_707),
-            Err(Refusal::Malformed { word: 676 }),
+            Err(Refusal::BadWord { word: 676 }),
             "{}",
             energy.name()
         );
         assert_eq!(
             frames(673, 2_709),
-            Err(Refusal::Malformed { word: 677 }),
+            Err(Refusal::BadWord { word: 677 }),
             "{}",
             energy.name()
         );
-        assert_eq!(frames(2_016, 8_080), Err(Refusal::TooLong), "{}", energy.name());
+        assert_eq!(frames(2_016, 8_080), Err(Refusal::TooManyFrames), "{}", energy.name());
     }
     for rooms in [[0; 3], [673; 3], [672, 673, 9]] {
         let file = sized(&[1 << 30 | 7], 673, 2_708);
@@ -473,7 +473,7 @@ fn short_and_torn_files() {
             energy.name()
         );
         let refusal = energy.read(&[0; 12], &mut [], &mut [], &mut []).map(|read| read.frames);
-        assert_eq!(refusal, Err(Refusal::Malformed { word: 3 }), "{}", energy.name());
+        assert_eq!(refusal, Err(Refusal::BadWord { word: 3 }), "{}", energy.name());
     }
 }
 

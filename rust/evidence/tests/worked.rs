@@ -109,12 +109,7 @@ fn recordings() {
                 .map_err(|not| not.refusal)
         };
         assert_eq!(record(7), Ok((0, 0)), "{}", energy.name());
-        assert_eq!(
-            record(8),
-            Err(Refusal::UseAboveCharge { excess: 1 }),
-            "{}",
-            energy.name()
-        );
+        assert_eq!(record(8), Err(Refusal::UseTooGreat { excess: 1 }), "{}", energy.name());
         assert_eq!(record(1), Ok((5, 1)), "{}", energy.name());
     }
 }
@@ -201,12 +196,12 @@ fn the_limits() {
         assert_eq!(plan(&[400_000]), Ok(1), "{}", energy.name());
         assert_eq!(
             plan(&[400_001]),
-            Err(Refusal::HarvestOverLimit { frame: 1 }),
+            Err(Refusal::HarvestAboveLimit { frame: 1 }),
             "{}",
             energy.name()
         );
         assert_eq!(plan(&[1; 672]), Ok(672), "{}", energy.name());
-        assert_eq!(plan(&[1; 673]), Err(Refusal::TooLong), "{}", energy.name());
+        assert_eq!(plan(&[1; 673]), Err(Refusal::TooManyFrames), "{}", energy.name());
 
         let mut file = [0; 8_081];
         let bounded = Frames {
@@ -225,14 +220,14 @@ fn the_limits() {
             header.map(|header| header.frames)
         };
         assert_eq!(read(8_080), Ok(672), "{}", energy.name());
-        assert_eq!(read(8_081), Err(Refusal::TooLong), "{}", energy.name());
+        assert_eq!(read(8_081), Err(Refusal::TooManyFrames), "{}", energy.name());
 
         let recorded = |frames: u32| match energy.shift_record(unrecorded(frames), 1, 1) {
             Ok(shift) => Ok(shift.now.recorded),
             Err(not) => Err(not.refusal),
         };
         assert_eq!(recorded(672), Ok(1), "{}", energy.name());
-        assert_eq!(recorded(673), Err(Refusal::NotAShift), "{}", energy.name());
+        assert_eq!(recorded(673), Err(Refusal::NotShift), "{}", energy.name());
     }
 }
 

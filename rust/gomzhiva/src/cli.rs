@@ -118,7 +118,7 @@ pub enum Command {
 pub struct PlanArguments {
     #[command(flatten)]
     pub request: RequestArguments,
-    /// Print document 01's listing, byte for byte as the proved library writes it
+    /// Print the listing, byte for byte as the proved library writes it
     #[arg(long, conflicts_with_all = ["csv", "chart", "without_leasts"])]
     pub listing: bool,
     #[command(flatten)]

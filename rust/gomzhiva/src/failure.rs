@@ -63,7 +63,7 @@ impl From<Refusal> for Failure {
 impl fmt::Display for Failure {
     fn fmt(&self, f: &mut fmt::Formatter<'_>) -> fmt::Result {
         match self {
-            Failure::Refused { refusal, sentence } => write!(f, "gomzhiva: {refusal}: {sentence}"),
+            Failure::Refused { refusal, sentence } => write!(f, "gomzhiva: {}: {sentence}", refusal.line()),
             Failure::Fault(message) => f.write_str(message),
             Failure::System { name, reason } => write!(f, "gomzhiva: {name}: {reason}"),
         }

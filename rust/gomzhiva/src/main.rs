@@ -52,7 +52,7 @@ fn whole(message: &clap::Error) -> String {
 /// where that is not the product itself.
 fn tell(failure: &Failure, prints_product: bool) -> u8 {
     let printed = match failure.refusal() {
-        Some(refusal) if !prints_product => files::print(&format!("{refusal}\n")),
+        Some(refusal) if !prints_product => files::print(&(refusal.line() + "\n")),
         _ => Ok(()),
     };
     streams::tell(failure);

@@ -423,15 +423,19 @@ fn leasts_out_of_reach_are_refused_with_where_and_how_much() {
     );
     refused(&every, ["9", "2", "2"], "6 7\n0 2\n9 -\n", &dry);
     // One that is larger than any may be is no advice.
-    let dry = format!("{reach} run the store dry in frame 3, with 400000 Wh missing there");
+    let neither = "no start charge and no capacity alone would be enough";
+    let dry = format!("{reach} run the store dry in frame 3, with 400000 Wh missing there; {neither}");
     let below = ["999999999"; 2];
     refused(&plans, [below[0], below[1], "0"], &format!("{all}0 463529088\n"), &dry);
     // The needed capacity goes by unlimited storage, where frame 3 has enough; the largest capacity loses all of frame 1.
     let needed = ["needed -"];
     let dry = |frame, missing| format!("{reach} run the store dry in frame {frame}, with {missing} Wh missing there");
     let frames = format!("{all}0 463300000\n0 300000\n");
-    refused(&needed, ["5", most, "0"], &frames, &dry(4, 70911));
-    refused(&plans, [most, most, "0"], &frames, &dry(3, 170911));
+    let none = "no start charge would be enough";
+    let unlimited = format!("{}; {none}", dry(4, 70911));
+    refused(&needed, ["5", most, "0"], &frames, &unlimited);
+    let largest = format!("{}; {neither}", dry(3, 170911));
+    refused(&plans, [most, most, "0"], &frames, &largest);
     let frames = format!("{all}0 463300000\n0 100000\n");
     let enough = format!("{}; a start charge of 999870911 Wh would be enough", dry(4, 70911));
     refused(&needed, ["5", "999800000", "0"], &frames, &enough);
@@ -440,7 +444,8 @@ fn leasts_out_of_reach_are_refused_with_where_and_how_much() {
     let low = |end| format!("{reach} leave 129089 Wh, and {end} Wh were asked for");
     let enough = format!("{}; a start charge of 999970911 Wh would be enough", low("200000"));
     refused(&needed, ["5", "999900000", "200000"], &frames, &enough);
-    refused(&needed, ["5", "999900000", "300000"], &frames, &low("300000"));
+    let above = format!("{}; {none}", low("300000"));
+    refused(&needed, ["5", "999900000", "300000"], &frames, &above);
     // What is named is accepted, and one less is not.
     let request = format!("capacity 5\nstart 5\nend 200000\nharvest least\n{frames}");
     for (start, status) in [("999970911", 0), ("999970910", 1)] {
@@ -930,7 +935,7 @@ fn commands_show_the_reference() {
         let folder = Folder::new();
         folder.write("request", bounded_text(figures, lists.frames()));
         let (harvest, frames) = (&lists.harvest, lists.count());
-        let lines = |said: Result<String, energy::Refusal>| said.unwrap_or_else(|refusal| format!("{refusal}\n"));
+        let lines = |said: Result<String, energy::Refusal>| said.unwrap_or_else(|refusal| refusal.line() + "\n");
 
         let mut budgets = vec![0; frames];
         let planned = Reference.plan(figures, lists.frames(), &mut budgets);
@@ -947,7 +952,11 @@ fn commands_show_the_reference() {
             Err(refusal) => {
                 refusals.borrow_mut().insert(refusal.number());
                 prop_assert_eq!(plan.status, Some(1));
-                prop_assert!(plan.err.starts_with(&format!("gomzhiva: {refusal}: ")), "{}", plan.err);
+                prop_assert!(
+                    plan.err.starts_with(&format!("gomzhiva: {}: ", refusal.line())),
+                    "{}",
+                    plan.err
+                );
             }
         }
 

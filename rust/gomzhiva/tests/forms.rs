@@ -275,7 +275,7 @@ fn text_after_words_is_the_same_request() {
             Err(refusal) => {
                 prop_assert_eq!(words.status, Some(1));
                 prop_assert!(
-                    words.err.starts_with(&format!("gomzhiva: {refusal}: ")),
+                    words.err.starts_with(&format!("gomzhiva: {}: ", refusal.line())),
                     "{}",
                     words.err
                 );
@@ -454,7 +454,11 @@ fn a_changed_word_file_is_what_the_reference_reads() {
             }
             Err(refusal) => {
                 prop_assert_eq!(ran.status, Some(1));
-                prop_assert!(ran.err.starts_with(&format!("gomzhiva: {refusal}: ")), "{}", ran.err);
+                prop_assert!(
+                    ran.err.starts_with(&format!("gomzhiva: {}: ", refusal.line())),
+                    "{}",
+                    ran.err
+                );
             }
         }
         Ok(())

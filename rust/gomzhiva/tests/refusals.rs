@@ -308,14 +308,27 @@ fn leasts_out_of_reach_name_what_is_missing_and_what_would_do() {
             "capacity 6\nstart 2\nend 3\nharvest least\n3 -\n0 3\n",
             "leave 2 Wh, and 3 Wh were asked for; a start charge of 3 Wh would be enough",
         ),
+        // The least capacity is one that may be, and the needed one is not.
+        (
+            "capacity 999900000\nstart 999900000\nend 0\nharvest least most\n400000 - 0\n0 500000000 -\n0 499900005 -\n",
+            "run the store dry in frame 3, with 5 Wh missing there; a capacity of 999900005 Wh would be enough",
+        ),
         // Neither would: the first frame needs more than the whole battery, and nothing comes before it.
         (
             "capacity 5\nstart 2\nend 0\nharvest least\n0 6\n5 -\n",
-            "run the store dry in frame 1, with 4 Wh missing there",
+            "run the store dry in frame 1, with 4 Wh missing there; \
+             no start charge and no capacity alone would be enough",
         ),
         (
             "capacity 5\nstart 5\nend 0\nharvest least\n0 6\n5 -\n",
-            "run the store dry in frame 1, with 1 Wh missing there",
+            "run the store dry in frame 1, with 1 Wh missing there; \
+             no start charge and no capacity alone would be enough",
+        ),
+        // Nor where the battery is too small behind a frame that takes more charge than there is.
+        (
+            "capacity 5\nstart 2\nend 0\nharvest least\n0 3\n9 -\n0 6\n",
+            "run the store dry in frame 1, with 1 Wh missing there; \
+             no start charge and no capacity alone would be enough",
         ),
     ] {
         assert_out_of_reach(request, &format!("{reach} {sentence}"));
@@ -331,86 +344,118 @@ fn leasts_out_of_reach_name_what_is_missing_and_what_would_do() {
     );
 }
 
+/// A day of quarter hours with the sun in the middle, in whose last hours the sieves run.
+fn day_of_evening_sieves() -> String {
+    let [night, sun, evening] =
+        [("0 -\n", 24), ("343 -\n", 48), ("0 37\n", 24)].map(|(line, times)| line.repeat(times));
+    format!("capacity 800\nstart 400\nend 22\nharvest least\n{night}{sun}{evening}")
+}
+
+#[test]
+fn a_capacity_that_is_enough_for_the_leasts_may_be_far_below_the_needed_one() {
+    let small = "capacity 4\nstart 4\nend 0\nharvest least\n7 -\n1 -\n3 8\n4 4\n5 4\n";
+    for (request, fail, enough, needed) in [
+        (small, "frame 3, with 1 Wh missing there", 5, 7),
+        (
+            &day_of_evening_sieves(),
+            "frame 94, with 14 Wh missing there",
+            910,
+            5494,
+        ),
+    ] {
+        let reach = format!("the leasts are out of reach: as budgets they run the store dry in {fail}");
+        assert_out_of_reach(request, &format!("{reach}; a capacity of {enough} Wh would be enough"));
+        let folder = Folder::new();
+        let ran = |line: String| folder.line_with(&line, request.as_bytes());
+        assert_eq!(ran("needed -".into()).text(), format!("needed capacity {needed} Wh\n"));
+        for (capacity, status) in [(enough, 0), (enough - 1, 1)] {
+            assert_eq!(ran(format!("plan - --capacity {capacity}")).status, Some(status));
+        }
+    }
+}
+
 /// What a refusal 11 of a request says, and which kind it is.
 #[derive(Debug)]
 struct OutOfReach {
     sentence: String,
     start: Option<u32>,
-    capacity: Option<u64>,
+    capacity: Option<u32>,
 }
 
 impl OutOfReach {
-    /// From the reference: the least start charge up to `most` that is accepted, each below it being refused, and the needed
-    /// capacity, if a request may have it.
-    fn of(
-        figures: Figures,
-        lists: &Lists,
-        most: u32,
-        capacity: Option<u64>,
-        accepts: impl Fn(Figures) -> bool,
-    ) -> Self {
-        let start = (figures.start..=most).find(|&start| accepts(Figures { start, ..figures }));
-        assert_ne!(start, Some(figures.start), "it is refused");
+    /// With what is enough, if anything is, and else in words that nothing is.
+    fn of(figures: Figures, lists: &Lists, start: Option<u32>, capacity: Option<u32>, nothing: &str) -> Self {
         let enough = match (start, capacity) {
-            (Some(start), None) => format!("; a start charge of {start} Wh would be enough"),
-            (None, Some(capacity)) => format!("; a capacity of {capacity} Wh would be enough"),
-            (None, None) => String::new(),
+            (Some(start), None) => format!("a start charge of {start} Wh"),
+            (None, Some(capacity)) => format!("a capacity of {capacity} Wh"),
+            (None, None) => nothing.to_string(),
             // A fuller battery helps where it was not full before, and a larger one where it was.
             (Some(_), Some(_)) => panic!("{figures:?} {lists:?}"),
         };
         let fail = leasts_fail(0, figures, lists.frames());
         OutOfReach {
-            sentence: format!("the leasts are out of reach: as budgets they {fail}{enough}"),
+            sentence: format!("the leasts are out of reach: as budgets they {fail}; {enough} would be enough"),
             start,
             capacity,
         }
     }
 
-    /// Of a plan: no start charge is above the capacity.
+    /// Of a plan: no start charge is above the capacity, and no charge is above the start charge and all harvest.
     fn of_plan(figures: Figures, lists: &Lists) -> Self {
         let accepts = |figures| Reference.shift_start(figures, lists.frames()).is_ok();
-        let needed = Reference.needed(figures, lists.frames()).ok();
-        let capacity = needed.filter(|needed| *needed <= MAX_CAPACITY.into());
-        if let Some(capacity) = capacity {
-            let capacity = capacity as u32;
-            assert!(accepts(Figures { capacity, ..figures }));
-        }
-        OutOfReach::of(figures, lists, figures.capacity, capacity, accepts)
+        let all = figures.start + lists.harvest.iter().sum::<u32>();
+        let start = first(figures.start, figures.capacity, |start| {
+            accepts(Figures { start, ..figures })
+        });
+        let capacity = first(figures.capacity, all, |capacity| {
+            accepts(Figures { capacity, ..figures })
+        });
+        OutOfReach::of(figures, lists, start, capacity, "no start charge and no capacity alone")
     }
 
     /// Of the needed capacity: with as much as all leasts and the end charge take, any request is feasible.
     fn of_needed(figures: Figures, lists: &Lists) -> Self {
-        let accepts = |figures| refusals::needed(figures, lists.frames()).is_ok();
         let most = figures.end + lists.least.iter().sum::<u32>();
+        let start = first(figures.start, most, |start| {
+            refusals::needed(Figures { start, ..figures }, lists.frames()).is_ok()
+        });
         let unlimited = Figures {
             capacity: MAX_CAPACITY,
             ..figures
         };
-        OutOfReach::of(unlimited, lists, most, None, accepts)
+        OutOfReach::of(unlimited, lists, start, None, "no start charge")
     }
 }
 
-/// How often a refusal 11 named nothing that would do, a start charge, and a capacity, how often the leasts left too little, and
-/// how often the needed capacity was refused too.
+/// The first figure that is accepted above one that is refused and up to a largest one.
+fn first(refused: u32, largest: u32, accepts: impl Fn(u32) -> bool) -> Option<u32> {
+    assert!(!accepts(refused));
+    (refused..=largest).find(|&figure| accepts(figure))
+}
+
+/// How often a refusal 11 named nothing that would do, a start charge, a capacity, and one below the needed capacity, how often
+/// the leasts left too little, and how often the needed capacity was refused too.
 #[derive(Default, Debug)]
 struct Seen {
     nothing: Cell<u32>,
     start: Cell<u32>,
     capacity: Cell<u32>,
+    below: Cell<u32>,
     low: Cell<u32>,
     needed: Cell<u32>,
 }
 
 impl Seen {
-    fn all(&self) -> [u32; 5] {
+    fn all(&self) -> [u32; 6] {
         let Seen {
             nothing,
             start,
             capacity,
+            below,
             low,
             needed,
         } = self;
-        [nothing, start, capacity, low, needed].map(Cell::get)
+        [nothing, start, capacity, below, low, needed].map(Cell::get)
     }
 }
 
@@ -423,12 +468,12 @@ fn count(seen: &Cell<u32>, is_seen: bool) {
 fn assert_says_what_would_do(figures: Figures, lists: &Lists, seen: &Seen) {
     let folder = Folder::new();
     folder.write("request", bounded_text(figures, lists.frames()));
-    if refusals::needed(figures, lists.frames()) == Err(Refusal::LeastsNotFeasible) {
+    if refusals::needed(figures, lists.frames()) == Err(Refusal::LeastsOutOfReach) {
         let OutOfReach { sentence, .. } = OutOfReach::of_needed(figures, lists);
         assert_refused(&folder.line("needed request"), true, "11 0", &sentence);
         count(&seen.needed, true);
     }
-    if Reference.shift_start(figures, lists.frames()) != Err(Refusal::LeastsNotFeasible) {
+    if Reference.shift_start(figures, lists.frames()) != Err(Refusal::LeastsOutOfReach) {
         return;
     }
     let expected = OutOfReach::of_plan(figures, lists);
@@ -443,19 +488,19 @@ fn assert_says_what_would_do(figures: Figures, lists: &Lists, seen: &Seen) {
         "11 0",
         sentence,
     );
-    let plan = |figure: String| folder.line(&format!("plan request {figure}")).status;
-    if let Some(start) = expected.start {
-        let less = start - 1;
-        assert_eq!(
-            (plan(format!("--start {start}")), plan(format!("--start {less}"))),
-            (Some(0), Some(1))
-        );
-    } else {
-        assert_eq!(plan(format!("--start {}", figures.capacity)), Some(1));
+    for (name, enough, largest) in [
+        ("start", expected.start, figures.capacity),
+        ("capacity", expected.capacity, MAX_CAPACITY),
+    ] {
+        let status = |figure| folder.line(&format!("plan request --{name} {figure}")).status;
+        match enough {
+            Some(enough) => assert_eq!((status(enough), status(enough - 1)), (Some(0), Some(1)), "{name}"),
+            None => assert_eq!(status(largest), Some(1), "{name}"),
+        }
     }
-    if let Some(capacity) = expected.capacity {
-        assert_eq!(plan(format!("--capacity {capacity}")), Some(0));
-    }
+    let needed = Reference.needed(figures, lists.frames()).unwrap_or(0);
+    let is_below = expected.capacity.map_or(false, |capacity| u64::from(capacity) < needed);
+    count(&seen.below, is_below);
     count(&seen.nothing, expected.start.is_none() && expected.capacity.is_none());
     count(&seen.start, expected.start.is_some());
     count(&seen.capacity, expected.capacity.is_some());
@@ -632,7 +677,11 @@ fn a_plan_without_the_leasts_is_the_references_without_them() {
             );
             for ran in [&csv, &shown, &picture] {
                 prop_assert_eq!(ran.status, Some(1));
-                prop_assert!(ran.err.starts_with(&format!("gomzhiva: {refusal}: ")), "{}", ran.err);
+                prop_assert!(
+                    ran.err.starts_with(&format!("gomzhiva: {}: ", refusal.line())),
+                    "{}",
+                    ran.err
+                );
             }
             count(&refused, true);
             return Ok(());

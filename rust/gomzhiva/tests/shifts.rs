@@ -509,7 +509,7 @@ fn assert_logbooks(random: &mut Random, seen: &mut Seen) {
     };
     let started = start(&folder, &bounded_text(figures, forecast.frames()));
     if let Err(refusal) = Reference.shift_start(figures, forecast.frames()) {
-        assert_eq!((started.status, started.text()), (Some(1), format!("{refusal}\n")));
+        assert_eq!((started.status, started.text()), (Some(1), refusal.line() + "\n"));
         assert!(folder.names().is_empty());
         return;
     }
@@ -555,8 +555,8 @@ fn assert_logbooks(random: &mut Random, seen: &mut Seen) {
                 records.push(shift);
             }
             Err(refusal) => {
-                assert_eq!((recorded.status, recorded.text()), (Some(1), format!("{refusal}\n")));
-                let sentence = recorded.err.strip_prefix(&format!("gomzhiva: {refusal}: "));
+                assert_eq!((recorded.status, recorded.text()), (Some(1), refusal.line() + "\n"));
+                let sentence = recorded.err.strip_prefix(&format!("gomzhiva: {}: ", refusal.line()));
                 let lines = sentence.map(|sentence| sentence.lines().count());
                 assert_eq!(lines, Some(1), "nothing else is told: {}", recorded.err);
                 assert_eq!(folder.read("journal"), before, "a refused call is not written");
@@ -592,7 +592,7 @@ fn assert_logbooks(random: &mut Random, seen: &mut Seen) {
             }
             Err(refusal) => {
                 assert_eq!(plan.status, Some(1));
-                assert!(plan.err.starts_with(&format!("gomzhiva: {refusal}: ")));
+                assert!(plan.err.starts_with(&format!("gomzhiva: {}: ", refusal.line())));
             }
         }
         assert_eq!(calls(&folder), accepted);
@@ -795,6 +795,11 @@ fn a_journal_whose_bounds_are_refused_says_which_they_are() {
             "start capacity 2 start 0 end 0 harvest 6 0 least - 5",
             "refused 11 0: the leasts are out of reach: as budgets they run the store dry in frame 2, \
              with 3 Wh missing there; a capacity of 5 Wh would be enough",
+        ),
+        (
+            "start capacity 2 start 0 end 0 harvest 1 4 least 4 -",
+            "refused 11 0: the leasts are out of reach: as budgets they run the store dry in frame 1, \
+             with 3 Wh missing there; no start charge and no capacity alone would be enough",
         ),
     ] {
         folder.write("journal", sealed(start));

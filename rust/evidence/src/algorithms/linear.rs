@@ -1,6 +1,6 @@
-//! House curve 0 as a linear program for the solver glpsol, whose optimum must be the plan's worth.
+//! A house curve as a linear program for the solver glpsol, whose optimum must be the plan's worth.
 
-use crate::reference::curves::HOUSE_CURVES;
+use crate::reference::curves::Curve;
 use crate::reference::limits::NO_UPPER_END;
 use energy::{Figures, Frames};
 use std::fmt::Write;
@@ -20,8 +20,7 @@ fn bound_rows(k: usize, sum: &str, least: u32, most: u32) -> String {
 }
 
 /// The program in the CPLEX LP format: a budget for each band of the curve, a charge and a loss for each frame.
-pub fn program(figures: Figures, frames: Frames) -> String {
-    let curve = &HOUSE_CURVES[0];
+pub fn program(figures: Figures, frames: Frames, curve: &Curve) -> String {
     let mut goal = String::from("Maximize\n worth:\n");
     let mut rules = String::from("Subject to\n");
     let mut bounds = String::from("Bounds\n");
@@ -51,7 +50,7 @@ pub fn program(figures: Figures, frames: Frames) -> String {
 }
 
 /// The solver's optimum; nothing if glpsol is not installed or its answer cannot be read.
-pub fn optimum(figures: Figures, frames: Frames) -> io::Result<Option<f64>> {
+pub fn optimum(figures: Figures, frames: Frames, curve: &Curve) -> io::Result<Option<f64>> {
     let known = Command::new("glpsol")
         .arg("--version")
         .stdout(Stdio::null())
@@ -63,7 +62,7 @@ pub fn optimum(figures: Figures, frames: Frames) -> io::Result<Option<f64>> {
     let directory = std::env::temp_dir().join(format!("energy-linear-{}", std::process::id()));
     std::fs::create_dir_all(&directory)?;
     let (input, output) = (directory.join("plan.lp"), directory.join("plan.out"));
-    std::fs::write(&input, program(figures, frames))?;
+    std::fs::write(&input, program(figures, frames, curve))?;
     let status = Command::new("glpsol")
         .arg("--lp")
         .arg(&input)
@@ -89,6 +88,7 @@ fn objective(report: &str) -> Option<f64> {
 #[cfg(test)]
 mod tests {
     use super::*;
+    use crate::reference::curves::HOUSE_CURVES;
 
     #[test]
     fn a_report_is_read() {
@@ -111,7 +111,7 @@ mod tests {
             least: &[0, 2],
             most: &[NO_UPPER_END, 3],
         };
-        let text = program(figures, frames);
+        let text = program(figures, frames, &HOUSE_CURVES[0]);
         assert!(text.contains(" f1: y1 + w1 + b1_0 + b1_1 + b1_2 + b1_3 + b1_4 = 8\n"));
         assert!(text.contains(" f2: y2 - y1 + w2 + b2_0 + b2_1 + b2_2 + b2_3 + b2_4 = 4\n"));
         assert!(text.contains(" l2: + b2_0 + b2_1 + b2_2 + b2_3 + b2_4 >= 2\n"));

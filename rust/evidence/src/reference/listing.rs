@@ -29,7 +29,7 @@ fn text_of(energy: &dyn Energy, file: &[u8]) -> Result<String, Refusal> {
 
 /// Writes the text, or the refusal, as far as there is room, and gives the number of bytes.
 pub fn listing(energy: &dyn Energy, file: &[u8], text: &mut [u8]) -> usize {
-    let whole = text_of(energy, file).unwrap_or_else(|refusal| format!("{refusal}\n"));
+    let whole = text_of(energy, file).unwrap_or_else(|refusal| refusal.line() + "\n");
     let bytes = whole.len().min(text.len());
     text[..bytes].copy_from_slice(&whole.as_bytes()[..bytes]);
     bytes

@@ -20,7 +20,7 @@ pub fn refuse_if(test: bool, refusal: Refusal) -> Checked {
 /// 1 and 2: the number of frames.
 pub fn frames(count: usize) -> Checked {
     refuse_if(count == 0, Refusal::NoFrames)?;
-    refuse_if(count > MAX_FRAMES, Refusal::TooLong)
+    refuse_if(count > MAX_FRAMES, Refusal::TooManyFrames)
 }
 
 /// 7: a lent list whose length is not K.
@@ -30,7 +30,7 @@ pub fn same_length(length: usize, frames: usize) -> Checked {
 
 /// 3, 4, 5 and 6: the figures of a request.
 pub fn figures(figures: Figures, harvest: &[u32]) -> Checked {
-    refuse_if(figures.capacity > MAX_CAPACITY, Refusal::CapacityOverLimit)?;
+    refuse_if(figures.capacity > MAX_CAPACITY, Refusal::CapacityAboveLimit)?;
     refuse_if(figures.start > figures.capacity, Refusal::StartAboveCapacity)?;
     refuse_if(figures.end > figures.capacity, Refusal::EndAboveCapacity)?;
     harvests(1, harvest)
@@ -39,7 +39,7 @@ pub fn figures(figures: Figures, harvest: &[u32]) -> Checked {
 /// 6: the earliest harvest above its limit; the first of the list belongs to the given frame.
 pub fn harvests(first: u64, harvest: &[u32]) -> Checked {
     match harvest.iter().position(|&h| h > MAX_HARVEST) {
-        Some(place) => Err(Refusal::HarvestOverLimit {
+        Some(place) => Err(Refusal::HarvestAboveLimit {
             frame: first + place as u64,
         }),
         None => Ok(()),
@@ -77,7 +77,7 @@ pub fn end_charge(store: Store, harvest: &[u32]) -> Checked {
 /// 9 and 11: the end charge; the leasts taken as budgets are not feasible.
 pub fn reach(store: Store, frames: Frames) -> Checked {
     end_charge(store, frames.harvest)?;
-    refuse_if(!feasible(store, frames, frames.least), Refusal::LeastsNotFeasible)
+    refuse_if(!feasible(store, frames, frames.least), Refusal::LeastsOutOfReach)
 }
 
 /// 20: every frame is recorded already.
@@ -88,7 +88,7 @@ pub fn frames_left(recorded: u64, frames: u64) -> Checked {
 /// 21: use greater than charge plus harvest.
 pub fn use_within(charge: u64, harvest: u32, used: u32) -> Checked {
     let excess = u64::from(used).saturating_sub(at_hand(charge, harvest));
-    refuse_if(excess > 0, Refusal::UseAboveCharge { excess })
+    refuse_if(excess > 0, Refusal::UseTooGreat { excess })
 }
 
 /// 1, 2 and 7: the number of frames, and the lists of bounds.
@@ -110,7 +110,7 @@ pub fn plan(request: Figures, frames: Frames, budgets: usize) -> Checked {
 /// 3 where no capacity is given: start or end.
 pub fn charges(request: Figures) -> Checked {
     let Figures { start, end, .. } = request;
-    refuse_if(start > MAX_CAPACITY || end > MAX_CAPACITY, Refusal::CapacityOverLimit)
+    refuse_if(start > MAX_CAPACITY || end > MAX_CAPACITY, Refusal::CapacityAboveLimit)
 }
 
 /// The needed capacity: 1, 2, 7, 3 for start or end, 6, 10, 9, and 11 with unlimited storage.

@@ -60,7 +60,7 @@ fn is_shift(s: &Shift) -> Checked {
         && terms.end <= terms.capacity
         && now.totals.harvested <= u64::from(MAX_HARVEST) * u64::from(now.recorded)
         && balances(terms.start, now.charge, now.totals);
-    refuse_if(!good, Refusal::NotAShift)
+    refuse_if(!good, Refusal::NotShift)
 }
 
 /// Start plus what was harvested is the charge plus what was used and lost.

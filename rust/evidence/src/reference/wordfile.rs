@@ -86,16 +86,16 @@ pub fn file_bytes(frames: Frames) -> usize {
 
 /// Reads a file: its size (2), its form (8), its frames (2), the lent lists (7), and nothing else.
 pub fn read(file: &[u8], harvest: &mut [u32], least: &mut [u32], most: &mut [u32]) -> Result<Header, Refusal> {
-    refuse_if(file.len() > MAX_FILE_BYTES, Refusal::TooLong)?;
+    refuse_if(file.len() > MAX_FILE_BYTES, Refusal::TooManyFrames)?;
     let chunks = file.chunks_exact(4);
     let torn = !chunks.remainder().is_empty();
     let words: Vec<Word> = chunks.map(Word::of).collect();
     if let Some(word) = broken_word(&words, torn) {
-        return Err(Refusal::Malformed { word: word as u64 });
+        return Err(Refusal::BadWord { word: word as u64 });
     }
     let listed = &words[3..words.len() - 1];
     let frames = harvests(listed);
-    refuse_if(frames > MAX_FRAMES, Refusal::TooLong)?;
+    refuse_if(frames > MAX_FRAMES, Refusal::TooManyFrames)?;
     for list in [&harvest, &least, &most] {
         refuse_if(list.len() < frames, Refusal::WrongLength)?;
     }

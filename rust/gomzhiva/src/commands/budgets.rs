@@ -5,7 +5,7 @@ use crate::chart::{svg, Picture};
 use crate::failure::Failure;
 use crate::report::{column, counted, lost, mean, sum, Table};
 use crate::request::{Bound, Request};
-use energy::{Energy, Figures, Linked, Verdict};
+use energy::{Figures, Trace, Verdict};
 
 /// A request's budgets, planned or supplied, and what the proved tracer says of them.
 pub struct Budgets<'a> {
@@ -18,11 +18,12 @@ pub struct Budgets<'a> {
 
 impl<'a> Budgets<'a> {
     pub fn trace(request: &'a Request, budgets: Vec<u32>) -> Result<Budgets<'a>, Failure> {
-        let harvest = &request.frames.harvest;
-        let mut charges = vec![0; harvest.len()];
-        let mut losses = vec![0; harvest.len()];
-        let verdict = Linked.trace(request.figures, harvest, &budgets, &mut charges, &mut losses);
-        let verdict = verdict.map_err(|refusal| request.refused_budgets(refusal, budgets.len()))?;
+        let traced = energy::trace(request.figures, &request.frames.harvest, &budgets);
+        let Trace {
+            verdict,
+            charges,
+            losses,
+        } = traced.map_err(|refusal| request.refused_budgets(refusal, budgets.len()))?;
         Ok(Budgets {
             request,
             budgets,

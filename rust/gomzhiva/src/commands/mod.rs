@@ -15,7 +15,7 @@ use crate::manual;
 use crate::request::{read_budgets, too_many, RequestArguments};
 use clap::CommandFactory;
 use clap_complete::{generate, Shell};
-use energy::{Energy, Linked, Refusal};
+use energy::Refusal;
 
 /// What can still be done where leasts are out of reach.
 const WITHOUT_LEASTS: &str = "`--without-leasts` plans what can be done without them";
@@ -45,7 +45,7 @@ fn completions(shell: Shell) -> String {
 
 fn needed(request: &RequestArguments) -> Result<(), Failure> {
     let request = request.read()?.without_capacity()?;
-    let needed = Linked.needed(request.figures, request.frames.lent());
+    let needed = energy::needed(request.figures, request.frames.lent());
     let needed = needed.map_err(|refusal| request.refused_without_limit(refusal))?;
     print(&format!("needed capacity {needed} Wh\n"))
 }
@@ -69,8 +69,8 @@ fn write(output: &Place, inputs: &[&Place], bytes: &[u8]) -> Result<(), Failure>
 
 /// What budgets earn, in words.
 fn worth(budgets: &[u32]) -> Result<String, Failure> {
-    let worth = Linked.grade(budgets).map_err(|refusal| match refusal {
-        Refusal::TooLong => Failure::Refused {
+    let worth = energy::grade(budgets).map_err(|refusal| match refusal {
+        Refusal::TooManyFrames => Failure::Refused {
             refusal,
             sentence: too_many(budgets.len(), "budget"),
         },

@@ -8,7 +8,7 @@ use crate::failure::Failure;
 use crate::files::print;
 use crate::report::capitalised;
 use crate::request::{Draft, Request};
-use energy::{Energy, Linked, Refusal, LISTING_BYTES};
+use energy::Refusal;
 
 pub fn run(arguments: &PlanArguments) -> Result<(), Failure> {
     let draft = arguments.request.read()?;
@@ -37,10 +37,8 @@ pub fn run(arguments: &PlanArguments) -> Result<(), Failure> {
 
 /// The budgets of the plan; where leasts are out of reach, the refusal says what is planned without them.
 fn budgets(request: &Request, is_without: bool) -> Result<Vec<u32>, Failure> {
-    let mut budgets = vec![0; request.frames.harvest.len()];
-    let planned = Linked.plan(request.figures, request.frames.lent(), &mut budgets);
-    planned.map(|_| budgets).map_err(|refusal| match refusal {
-        Refusal::LeastsNotFeasible if !is_without => request.refused(refusal).with(WITHOUT_LEASTS),
+    energy::plan(request.figures, request.frames.lent()).map_err(|refusal| match refusal {
+        Refusal::LeastsOutOfReach if !is_without => request.refused(refusal).with(WITHOUT_LEASTS),
         other => request.refused(other),
     })
 }
@@ -53,9 +51,7 @@ fn listing(mut draft: Draft) -> Result<(), Failure> {
         Some(file) => file,
         None => request.word_file()?,
     };
-    let mut text = vec![0; LISTING_BYTES];
-    let length = Linked.listing(&file, &mut text);
-    let text = String::from_utf8_lossy(&text[..length]);
+    let text = energy::listing(&file);
     match refusal_in(&text) {
         Some(refusal) => Err(request.refused(refusal)),
         None => print(&text),
@@ -72,7 +68,7 @@ fn refusal_in(listing: &str) -> Option<Refusal> {
 
 /// The plan in words, and where it leaves the leasts that it was made without.
 fn summary(planned: &Request, plan: &Budgets<'_>, is_without: bool) -> Result<String, Failure> {
-    let needed = Linked.needed(planned.figures, planned.frames.lent())?;
+    let needed = energy::needed(planned.figures, planned.frames.lent())?;
     let serves = format!("a capacity of {needed} Wh would serve every curve as well as unlimited storage");
     let within = match (planned.frames.is_bounded(), is_without) {
         (true, true) => "within the mosts, ",

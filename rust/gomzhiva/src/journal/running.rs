@@ -1,8 +1,8 @@
 //! A running shift: its forecast, its record in the library's hands, and the frames recorded.
 
 use crate::failure::Failure;
-use crate::request::{harvest_over_limit, FrameLists, Request};
-use energy::{Energy, Linked, Refusal, Rest, Shift};
+use crate::request::{harvest_above_limit, FrameLists, Request};
+use energy::{Refusal, Rest, Shift};
 
 /// A frame that was recorded, with the charge after it and what it lost.
 #[derive(Clone, Copy, Debug, PartialEq, Eq)]
@@ -22,7 +22,7 @@ pub struct Running {
 
 impl Running {
     pub fn start(request: Request) -> Result<Running, Refusal> {
-        let shift = Linked.shift_start(request.figures, request.frames.lent())?;
+        let shift = energy::start(request.figures, request.frames.lent())?;
         Ok(Running {
             forecast: request.frames,
             shift,
@@ -33,7 +33,7 @@ impl Running {
     /// Records the next frame; a refusal leaves the shift as it was.
     pub fn record(&mut self, harvest: u32, used: u32) -> Result<(), Refusal> {
         let before = self.shift.now.totals.lost;
-        self.shift = Linked.shift_record(self.shift, harvest, used)?;
+        self.shift = energy::record(self.shift, harvest, used)?;
         let now = self.shift.now;
         self.recorded.push(Recorded {
             harvest,
@@ -47,8 +47,8 @@ impl Running {
     /// The failure of a recording of this harvest in the next frame.
     pub fn refused(&self, refusal: Refusal, harvest: u32) -> Failure {
         let sentence = match refusal {
-            Refusal::HarvestOverLimit { .. } => {
-                harvest_over_limit(self.forecast.calendar, self.recorded.len(), harvest)
+            Refusal::HarvestAboveLimit { .. } => {
+                harvest_above_limit(self.forecast.calendar, self.recorded.len(), harvest)
             }
             other => other.sentence(),
         };
@@ -63,10 +63,8 @@ impl Running {
     /// The budgets of the frames not yet recorded, with the leasts of the forecast or without them.
     pub fn plan_rest(&self, without_leasts: bool) -> Result<(Rest, Vec<u32>), Refusal> {
         let forecast = self.forecast.planned(without_leasts);
-        let mut budgets = vec![0; forecast.harvest.len()];
-        let rest = Linked.shift_plan_rest(self.shift, forecast.lent(), &mut budgets)?;
-        let part = Linked.shift_rest_part(self.shift, &budgets)?;
-        Ok((rest, part.to_vec()))
+        let plan = energy::plan_rest(self.shift, forecast.lent())?;
+        Ok((plan.rest, plan.budgets))
     }
 
     /// The frames recorded: what the sun gave, and the bounds that their budgets had.

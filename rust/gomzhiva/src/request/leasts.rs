@@ -2,7 +2,7 @@
 //! answers.
 
 use super::Request;
-use energy::{Energy, Figures, Linked, MAX_CAPACITY};
+use energy::{Figures, MAX_CAPACITY};
 
 /// The store that a call goes by: with the capacity of the request, or without limit, so that nothing is lost.
 #[derive(Clone, Copy, Debug, PartialEq, Eq)]
@@ -12,13 +12,12 @@ pub enum Store {
 }
 
 impl Request {
-    /// Where the leasts fail, and what would be enough, if anything is.
+    /// Where the leasts fail, and what would be enough, or that nothing alone would.
     pub fn leasts_out_of_reach(&self, store: Store) -> Option<String> {
         let fail = self.leasts_fail(store)?;
-        let enough = self
-            .enough(store)
-            .map_or(String::new(), |enough| format!("; {enough} would be enough"));
-        Some(format!("the leasts are out of reach: as budgets they {fail}{enough}"))
+        let enough = self.enough(store);
+        let reach = format!("the leasts are out of reach: as budgets they {fail}");
+        Some(format!("{reach}; {enough} would be enough"))
     }
 
     /// How the leasts fail: where they run the store dry and what is missing there, or what they leave.
@@ -35,39 +34,42 @@ impl Request {
     }
 
     /// A higher start charge, or else a larger capacity: only that helps where the battery is full before the leasts fail.
-    fn enough(&self, store: Store) -> Option<String> {
-        let start = self
-            .enough_start(store)
-            .map(|start| format!("a start charge of {start} Wh"));
-        let capacity = || self.needed().filter(|needed| *needed <= MAX_CAPACITY.into());
-        start.or_else(|| Some(format!("a capacity of {} Wh", capacity()?)))
+    fn enough(&self, store: Store) -> String {
+        let (capacity, nothing) = match store {
+            Store::OfRequest => (self.enough_capacity(), "no start charge and no capacity alone"),
+            Store::Unlimited => (None, "no start charge"),
+        };
+        match (self.enough_start(store), capacity) {
+            (Some(start), _) => format!("a start charge of {start} Wh"),
+            (None, Some(capacity)) => format!("a capacity of {capacity} Wh"),
+            (None, None) => nothing.to_string(),
+        }
     }
 
-    /// The least start charge with which the call is accepted, found by halving: more charge is never too much.
+    /// The least start charge with which the call is accepted: more charge is never too much.
     fn enough_start(&self, store: Store) -> Option<u32> {
         let Figures { capacity, start, .. } = self.figures;
-        let (mut short, mut enough) = (start, capacity);
-        if !self.is_accepted_from(enough, store) {
-            return None;
-        }
-        while enough - short > 1 {
-            let middle = short + (enough - short) / 2;
-            if self.is_accepted_from(middle, store) {
-                enough = middle;
-            } else {
-                short = middle;
-            }
-        }
-        Some(enough)
+        least_above(start, capacity, |start| {
+            self.is_accepted_with(Figures { start, ..self.figures }, store)
+        })
     }
 
-    /// Whether the library plans the request, or has a needed capacity for it, with this start charge.
-    fn is_accepted_from(&self, start: u32, store: Store) -> bool {
-        let figures = Figures { start, ..self.figures };
-        let mut budgets = vec![0; self.frames.harvest.len()];
+    /// The least capacity with which the request is planned: what is feasible only grows with it.
+    fn enough_capacity(&self) -> Option<u32> {
+        least_above(self.figures.capacity, MAX_CAPACITY, |capacity| {
+            let figures = Figures {
+                capacity,
+                ..self.figures
+            };
+            self.is_accepted_with(figures, Store::OfRequest)
+        })
+    }
+
+    /// Whether the library plans the request, or has a needed capacity for it, with these figures.
+    fn is_accepted_with(&self, figures: Figures, store: Store) -> bool {
         match store {
-            Store::OfRequest => Linked.plan(figures, self.frames.lent(), &mut budgets).is_ok(),
-            Store::Unlimited => Linked.needed(figures, self.frames.lent()).is_ok(),
+            Store::OfRequest => energy::plan(figures, self.frames.lent()).is_ok(),
+            Store::Unlimited => energy::needed(figures, self.frames.lent()).is_ok(),
         }
     }
 
@@ -77,12 +79,27 @@ impl Request {
             Store::OfRequest => (self.figures, 0),
             Store::Unlimited => (FROM_NOTHING, self.figures.start),
         };
-        let (harvest, least) = (&self.frames.harvest, &self.frames.least);
-        let (mut charges, mut losses) = (vec![0; harvest.len()], vec![0; harvest.len()]);
-        let traced = Linked.trace(figures, harvest, least, &mut charges, &mut losses);
-        charges.iter_mut().for_each(|charge| *charge += i64::from(above));
-        traced.ok().map(|_| charges)
+        let traced = energy::trace(figures, &self.frames.harvest, &self.frames.least).ok()?;
+        let charges = traced.charges.into_iter();
+        Some(charges.map(|charge| charge + i64::from(above)).collect())
     }
+}
+
+/// The least figure that is enough, above one that is short and up to a largest one, by halving: one above it is enough too.
+fn least_above(mut short: u32, largest: u32, is_enough: impl Fn(u32) -> bool) -> Option<u32> {
+    if !is_enough(largest) {
+        return None;
+    }
+    let mut enough = largest;
+    while enough - short > 1 {
+        let middle = short + (enough - short) / 2;
+        if is_enough(middle) {
+            enough = middle;
+        } else {
+            short = middle;
+        }
+    }
+    Some(enough)
 }
 
 /// From nothing on all harvests of a week stay below the largest capacity, so that nothing is lost.

@@ -20,14 +20,14 @@ pub use fault::{quoted, Fault};
 pub use frames::{Bound, FrameLists, NO_BOUND};
 pub use leasts::Store;
 pub use moment::{Moment, FRAME_SECONDS};
-pub use refused::{harvest_over_limit, too_many};
+pub use refused::{harvest_above_limit, too_many};
 pub use times::Times;
 
 use crate::failure::Failure;
 use crate::files::{Place, MOST_BYTES};
 use crate::kinds::{is_journal, is_word_file};
 use clap::Args;
-use energy::{Energy, Figures, Linked, MAX_CAPACITY};
+use energy::{Figures, MAX_CAPACITY};
 use sheet::{Sheet, CAPACITY, END, FIGURES, START};
 
 /// Where a request stands, and figures in place of its own.
@@ -141,7 +141,7 @@ impl Request {
 
     /// The needed capacity, if there is one.
     pub fn needed(&self) -> Option<u64> {
-        Linked.needed(self.figures, self.frames.lent()).ok()
+        energy::needed(self.figures, self.frames.lent()).ok()
     }
 
     /// The request as text, with a column for the clock times if it has them, and for each bound that some frame has.

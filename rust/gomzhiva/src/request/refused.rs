@@ -20,13 +20,13 @@ impl Request {
     fn refused_by(&self, refusal: Refusal, store: Store) -> Failure {
         let Figures { capacity, start, end } = self.figures;
         let sentence = match refusal {
-            Refusal::TooLong => Some(too_many(self.frames.harvest.len(), "frame")),
-            Refusal::CapacityOverLimit => self.over_limit(),
+            Refusal::TooManyFrames => Some(too_many(self.frames.harvest.len(), "frame")),
+            Refusal::CapacityAboveLimit => self.above_limit(),
             Refusal::StartAboveCapacity => Some(above_capacity("start", start, capacity)),
             Refusal::EndAboveCapacity => Some(above_capacity("end", end, capacity)),
-            Refusal::HarvestOverLimit { frame } => Some(self.harvest_over_limit(frame)),
+            Refusal::HarvestAboveLimit { frame } => Some(self.harvest_above_limit(frame)),
             Refusal::BadBounds { frame } => Some(self.bad_bounds(frame)),
-            Refusal::LeastsNotFeasible => self.leasts_out_of_reach(store),
+            Refusal::LeastsOutOfReach => self.leasts_out_of_reach(store),
             _ => None,
         };
         let sentence = sentence.unwrap_or_else(|| refusal.sentence());
@@ -47,7 +47,7 @@ impl Request {
     }
 
     /// Which figure is above the largest capacity.
-    fn over_limit(&self) -> Option<String> {
+    fn above_limit(&self) -> Option<String> {
         let Figures { capacity, start, end } = self.figures;
         let figures = [("capacity", capacity), ("start charge", start), ("end charge", end)];
         let (name, figure) = figures.into_iter().find(|(_, figure)| *figure > MAX_CAPACITY)?;
@@ -57,9 +57,9 @@ impl Request {
     }
 
     /// Which harvest is above the largest one.
-    fn harvest_over_limit(&self, frame: u64) -> String {
+    fn harvest_above_limit(&self, frame: u64) -> String {
         let frame = frame as usize - 1;
-        harvest_over_limit(self.frames.calendar, frame, self.frames.harvest[frame])
+        harvest_above_limit(self.frames.calendar, frame, self.frames.harvest[frame])
     }
 
     /// What is wrong with the bounds of a frame.
@@ -86,7 +86,7 @@ fn above_capacity(name: &str, charge: u32, capacity: u32) -> String {
 }
 
 /// That a frame's harvest is above the largest one.
-pub fn harvest_over_limit(calendar: Calendar, frame: usize, harvest: u32) -> String {
+pub fn harvest_above_limit(calendar: Calendar, frame: usize, harvest: u32) -> String {
     let name = calendar.name_within(frame);
     format!("the harvest of {name} is {harvest} Wh, above the limit of {MAX_HARVEST} Wh")
 }

@@ -4,39 +4,34 @@ use super::sheet::Sheet;
 use super::{in_order, too_many, Calendar, Draft, FrameLists, Request};
 use crate::failure::Failure;
 use crate::files::MOST_BYTES;
-use energy::{Energy, Linked, Refusal, MAX_FILE_BYTES, MAX_FRAMES};
+use energy::{Frames, Refusal, MAX_FILE_BYTES};
 
 impl Request {
     /// The word file, from the proved writer.
     pub fn word_file(&self) -> Result<Vec<u8>, Failure> {
-        let mut file = vec![0; MAX_FILE_BYTES];
-        let length = Linked.write(self.figures, self.frames.lent(), &mut file);
-        file.truncate(length.map_err(|refusal| self.refused(refusal))?);
-        Ok(file)
+        energy::write(self.figures, self.frames.lent()).map_err(|refusal| self.refused(refusal))
     }
 }
 
 /// Reads a word file.
 pub fn from_words(bytes: Vec<u8>, name: String) -> Result<Draft, Failure> {
-    let [mut harvest, mut least, mut most] = [(); 3].map(|()| vec![0; MAX_FRAMES]);
-    let read = Linked
-        .read(&bytes, &mut harvest, &mut least, &mut most)
+    let (figures, frames) = energy::read(&bytes)
         .map_err(|refusal| match refusal {
-            Refusal::TooLong => too_many_words(&bytes),
+            Refusal::TooManyFrames => too_many_words(&bytes),
             other => other.into(),
         })
         .map_err(|failure: Failure| {
             let why = format!("{name} has a byte 0 and so is no text (a spreadsheet is read as CSV in UTF-8)");
             failure.with(&why)
         })?;
-    let [harvest, least, most] = [harvest, least, most].map(|list| list[..read.frames].to_vec());
+    let Frames { harvest, least, most } = frames.frames();
     Ok(Draft {
-        figures: in_order(read.figures).map(Some),
+        figures: in_order(figures).map(Some),
         frames: FrameLists {
             calendar: Calendar::default(),
-            harvest,
-            least,
-            most,
+            harvest: harvest.to_vec(),
+            least: least.to_vec(),
+            most: most.to_vec(),
         },
         word_file: Some(bytes),
         name,
@@ -51,7 +46,7 @@ fn too_many_words(file: &[u8]) -> Failure {
     } else {
         too_many(frames_of(file), "frame")
     };
-    let refusal = Refusal::TooLong;
+    let refusal = Refusal::TooManyFrames;
     Failure::Refused { refusal, sentence }
 }
 

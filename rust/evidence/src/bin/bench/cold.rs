@@ -12,10 +12,16 @@ use std::time::Instant;
 const ASKED: usize = 1_001;
 
 /// Microseconds between two looks at the clock, a call between them.
-fn once(call: impl FnOnce()) -> f64 {
+pub fn once(call: impl FnOnce()) -> f64 {
     let begin = Instant::now();
     call();
     begin.elapsed().as_secs_f64() * 1e6
+}
+
+/// Microseconds of the clock by itself.
+pub fn clock() -> f64 {
+    let looks: Vec<f64> = (0..ASKED).map(|_| once(|| ())).collect();
+    lower_quartile(&looks)
 }
 
 /// The lower quartile of some times.
@@ -25,8 +31,9 @@ pub fn lower_quartile(times: &[f64]) -> f64 {
     sorted[sorted.len() / 4]
 }
 
-/// The numbers below a count, in a random order.
-fn shuffled(count: usize, random: &mut Random) -> Vec<usize> {
+/// The numbers below a count, in the random order of a pass.
+pub fn shuffled(count: usize, number: u64) -> Vec<usize> {
+    let mut random = Random::of_case(seed(), number);
     let mut order: Vec<usize> = (0..count).collect();
     for i in (1..count).rev() {
         order.swap(i, random.up_to(i as u64) as usize);
@@ -36,9 +43,7 @@ fn shuffled(count: usize, random: &mut Random) -> Vec<usize> {
 
 /// One pass, the same for every contender.
 pub fn pass(requests: &[OfRow], all: &mut [Timed], number: u64) {
-    let looks: Vec<f64> = (0..ASKED).map(|_| once(|| ())).collect();
-    let clock = lower_quartile(&looks);
-    let order = shuffled(requests.len(), &mut Random::of_case(seed(), number));
+    let (clock, order) = (clock(), shuffled(requests.len(), number));
     for timed in all {
         for &i in &order {
             let (row, request) = &requests[i];

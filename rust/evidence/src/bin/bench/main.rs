@@ -4,6 +4,7 @@ mod against;
 mod aims;
 mod beside;
 mod bounds;
+mod calls;
 mod chill;
 mod cold;
 mod columns;
@@ -15,6 +16,7 @@ mod measured;
 mod rest;
 mod rows;
 mod search;
+mod subject;
 mod table;
 mod time;
 mod warm;
@@ -22,14 +24,17 @@ mod words;
 
 use beside::Beside;
 use contenders::Call;
+use energy::MAX_HARVEST;
 use evidence::random::seed;
 use measured::{Column, Measured};
 use search::Searched;
 use std::path::{Path, PathBuf};
 
 const HELP: &str = "\
-bench [--beside FILE.so] [--table FILE]     times, counted instructions, the aims, files, shifts, the linear program
+bench [--beside FILE.so] [--table FILE]     times, counted instructions, the aims, files, shifts, the linear programs
 bench --instructions [--beside FILE.so]     counted instructions alone, with the aims for them
+bench --calls                               what each function of the header takes at most, on its longest requests
+bench --linear                              the plan's worth against the optimum of glpsol, by each house curve
 
 --beside FILE.so   another build of the library in the same run; its columns have the file's name. It is made by
                    cc -shared -o FILE.so -Wl,--whole-archive libenergy.a -Wl,--no-whole-archive
@@ -45,6 +50,8 @@ struct Asked {
     beside: Option<Beside>,
     table: Option<PathBuf>,
     instructions: bool,
+    calls: bool,
+    linear: bool,
     /// Plays the calls that callgrind counts: for the run under it alone.
     played: Option<Call>,
 }
@@ -59,6 +66,8 @@ fn asked() -> Result<Asked, String> {
             "--beside" => asked.beside = Some(Beside::load(value()?)?),
             "--table" => asked.table = Some(value()?.into()),
             "--instructions" => asked.instructions = true,
+            "--calls" => asked.calls = true,
+            "--linear" => asked.linear = true,
             instructions::PLAY => asked.played = Some(Call::of_name(&value()?)?),
             _ => return Err(HELP.to_string()),
         }
@@ -81,8 +90,8 @@ fn load() -> String {
 }
 
 /// The line above every table, with the load before the run and after it.
-fn heading(before: &str) -> String {
-    let (most, seed, machine, after) = (rows::MOST, seed(), machine(), load());
+fn heading(most: &str, before: &str) -> String {
+    let (seed, machine, after) = (seed(), machine(), load());
     format!("largest harvest {most}; seed {seed}; machine: {machine}; load {before} before and {after} after")
 }
 
@@ -113,6 +122,14 @@ fn run_instructions(beside: Option<&Beside>) -> Result<(), String> {
     Ok(())
 }
 
+/// What the calls take at most.
+fn run_calls() {
+    let before = load();
+    let table = calls::measure();
+    let most = format!("{} and {MAX_HARVEST}", rows::MOST);
+    print!("{}\n\n{table}", heading(&most, &before));
+}
+
 /// What is printed of everything that was measured.
 fn summary(measured: &Measured, searched: &Searched) -> String {
     let sections = [
@@ -136,7 +153,7 @@ fn run_all(beside: Option<&Beside>, table: Option<&Path>) -> Result<(), String> 
     let (times, searched) = time::measure(beside);
     columns.extend(times);
     let measured = measured(columns, beside);
-    let heading = heading(&before);
+    let heading = heading(&rows::MOST.to_string(), &before);
     print!("{heading}\n\n{}", summary(&measured, &searched));
     if let Some(path) = table {
         let text = format!("{TITLE}\n\n{heading}\n\n{}", table::whole(&measured, Some(&searched)));
@@ -152,6 +169,8 @@ fn answer(asked: &Asked) -> Result<(), String> {
     match asked.played {
         Some(call) => instructions::play(call, beside),
         None if asked.instructions => run_instructions(beside)?,
+        None if asked.calls => run_calls(),
+        None if asked.linear => rest::compare_with_solver(),
         None => run_all(beside, asked.table.as_deref())?,
     }
     Ok(())

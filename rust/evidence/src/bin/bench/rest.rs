@@ -1,4 +1,4 @@
-//! The rest of the run: files, a shift, and the linear program.
+//! The rest of the run: files, a shift, and the linear programs.
 
 use crate::contenders::black_box;
 use crate::rows::MOST;
@@ -8,7 +8,7 @@ use evidence::algorithms::linear;
 use evidence::families::{bounded, request, Family, Size, FRAMES};
 use evidence::lists::Lists;
 use evidence::random::{seed, Random};
-use evidence::reference::curves::grade;
+use evidence::reference::curves::{grade, Curve, HOUSE_CURVES};
 use evidence::reference::limits::{MAX_FILE_BYTES, MAX_FRAMES};
 use evidence::under_test;
 use std::time::Instant;
@@ -79,9 +79,9 @@ fn measure_shift(all: &[Box<dyn Energy>]) {
 }
 
 /// The optimum of the linear program, and the microseconds that it took; nothing but a word where there is none.
-fn solve(figures: Figures, frames: Frames) -> Option<(f64, f64)> {
+fn solve(figures: Figures, frames: Frames, curve: &Curve) -> Option<(f64, f64)> {
     let begin = Instant::now();
-    match linear::optimum(figures, frames) {
+    match linear::optimum(figures, frames, curve) {
         Ok(Some(optimum)) => return Some((optimum, begin.elapsed().as_secs_f64() * 1e6)),
         Ok(None) => println!("glpsol is not installed (Debian: glpk-utils): skipped"),
         Err(error) => println!("glpsol could not be run: {error}"),
@@ -89,35 +89,46 @@ fn solve(figures: Figures, frames: Frames) -> Option<(f64, f64)> {
     None
 }
 
-/// The plan's worth by house curve 0 against the optimum of a linear program.
+/// One plan's worth by each house curve against the optimum of a linear program for that curve; false where there is no solver.
+fn compare_linear(energy: &dyn Energy, figures: Figures, kind: &str, frames: Frames) -> bool {
+    let mut budgets = vec![0; frames.harvest.len()];
+    energy.plan(figures, frames, &mut budgets).expect("a valid request");
+    let (count, name, time) = (budgets.len(), energy.name(), plan_micros(energy, figures, frames));
+    for (number, (curve, worth)) in HOUSE_CURVES.iter().zip(grade(&budgets)).enumerate() {
+        let (optimum, solver) = match solve(figures, frames, curve) {
+            Some(solved) => solved,
+            None => return false,
+        };
+        let same = if worth as f64 == optimum {
+            "the same"
+        } else {
+            "DIFFERENT"
+        };
+        println!(
+            "{count} frames, {kind}, curve {number}: {name} {worth} in {time:.2} us, glpsol {optimum} in {solver:.0} us: {same}"
+        );
+    }
+    true
+}
+
+/// The plan's worth against linear programs, one for each house curve.
 fn measure_linear(all: &[Box<dyn Energy>]) {
-    println!("\n## House curve 0 as a linear program\n");
+    println!("\n## The house curves as linear programs\n");
     for frames in FRAMES {
         let (figures, kinds) = daily_sun(Size::Small, frames);
         for (kind, lists) in &kinds {
-            let (optimum, solver) = match solve(figures, lists.frames()) {
-                Some(solved) => solved,
-                None => return,
-            };
             for energy in all {
-                let mut budgets = vec![0; frames];
-                energy
-                    .plan(figures, lists.frames(), &mut budgets)
-                    .expect("a valid request");
-                let worth = grade(&budgets)[0];
-                let same = if worth as f64 == optimum {
-                    "the same"
-                } else {
-                    "DIFFERENT"
-                };
-                let time = plan_micros(energy.as_ref(), figures, lists.frames());
-                println!(
-                    "{frames} frames, {kind}: {} {worth} in {time:.2} us, glpsol {optimum} in {solver:.0} us: {same}",
-                    energy.name()
-                );
+                if !compare_linear(energy.as_ref(), figures, kind, lists.frames()) {
+                    return;
+                }
             }
         }
     }
+}
+
+/// The linear programs alone.
+pub fn compare_with_solver() {
+    measure_linear(&under_test());
 }
 
 /// Measures all of it.

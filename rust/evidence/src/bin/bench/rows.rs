@@ -102,14 +102,19 @@ impl Row {
 
     /// So many of the row's requests, or its only one: the same in every run with the same seed.
     pub fn requests(&self, some: u64) -> Vec<Request> {
+        self.requests_up_to(MOST, some)
+    }
+
+    /// The same with harvests up to a most.
+    pub fn requests_up_to(&self, most: u32, some: u64) -> Vec<Request> {
         let count = if self.is_random() { some } else { 1 };
-        (0..count).map(|i| self.request(i)).collect()
+        (0..count).map(|i| self.request(most, i)).collect()
     }
 
     /// One of the row's requests.
-    fn request(&self, i: u64) -> Request {
+    fn request(&self, most: u32, i: u64) -> Request {
         let mut random = Random::of_case(seed(), self.frames as u64 + (i << 32));
-        let (figures, lists) = self.lists(&mut random);
+        let (figures, lists) = self.lists(most, &mut random);
         Request {
             figures,
             fractions: lists.harvest.iter().map(|&h| f64::from(h)).collect(),
@@ -118,13 +123,13 @@ impl Row {
     }
 
     /// A request's figures and lists.
-    fn lists(&self, random: &mut Random) -> (Figures, Lists) {
+    fn lists(&self, most: u32, random: &mut Random) -> (Figures, Lists) {
         let (family, is_full) = match self.kind {
             Kind::Usual(family) => (family, false),
             Kind::Full(family) => (family, true),
             Kind::Nested => return nested(self.frames),
         };
-        let (figures, harvest) = request(family, self.size, self.frames, MOST, random);
+        let (figures, harvest) = request(family, self.size, self.frames, most, random);
         let figures = if is_full { full(figures) } else { figures };
         let lists = if self.bounded {
             bounded(figures, harvest, random)

@@ -30,12 +30,11 @@ fn search_all(request: &Request, is_bounded: bool, budgets: &mut [u32]) {
     }
 }
 
-/// Microseconds of the search in a row's first request.
-fn micros(row: &Row) -> f64 {
-    let request = &row.requests(1)[0];
-    let mut budgets = vec![0; row.frames];
+/// Microseconds of the search in a request.
+pub fn micros(request: &Request, is_bounded: bool) -> f64 {
+    let mut budgets = vec![0; request.lists.count()];
     let begin = Instant::now();
-    search_all(request, row.bounded, &mut budgets);
+    search_all(request, is_bounded, &mut budgets);
     black_box(&budgets);
     begin.elapsed().as_secs_f64() * 1e6
 }
@@ -49,7 +48,7 @@ impl Searched {
     /// One round.
     pub fn round(&mut self) {
         for (row, best) in &mut self.0 {
-            *best = best.min(micros(row));
+            *best = best.min(micros(&row.requests(1)[0], row.bounded));
         }
     }
 

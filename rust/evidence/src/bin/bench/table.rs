@@ -14,13 +14,13 @@ fn cell(figure: Option<f64>) -> String {
 }
 
 /// A line of a table.
-fn line(cells: impl IntoIterator<Item = String>) -> String {
+pub fn line(cells: impl IntoIterator<Item = String>) -> String {
     let cells: String = cells.into_iter().map(|cell| format!(" {cell} |")).collect();
     format!("|{cells}\n")
 }
 
 /// The first lines of a table.
-fn head(names: impl IntoIterator<Item = String>) -> String {
+pub fn head(names: impl IntoIterator<Item = String>) -> String {
     let names: Vec<String> = names.into_iter().collect();
     let rule = "---|".repeat(names.len());
     format!("{}|{rule}\n", line(names))

@@ -11,7 +11,7 @@ const LONG: Duration = Duration::from_micros(500);
 const ALONE: usize = 300;
 
 /// Microseconds of a call: the mean of those in a row.
-fn repeated(mut call: impl FnMut()) -> f64 {
+pub fn repeated(mut call: impl FnMut()) -> f64 {
     let begin = Instant::now();
     let mut done = 0;
     while done == 0 || begin.elapsed() < LONG {

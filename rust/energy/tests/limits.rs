@@ -1,4 +1,4 @@
-//! The binding's own: limits that are the library's, and refusals that keep their number, P and sentence.
+//! The limits of the binding are the library's.
 
 use energy::{Energy, Figures, Frames, Linked, Refusal};
 use energy::{MAX_BOUND, MAX_CAPACITY, MAX_FILE_BYTES, MAX_FRAMES, MAX_HARVEST, NO_UPPER_END};
@@ -29,17 +29,17 @@ fn bounded(least: u32, most: u32) -> Result<(), Refusal> {
 #[test]
 fn limits_are_the_librarys() {
     assert_eq!(plan(MAX_CAPACITY, &[1]), Ok(()));
-    assert_eq!(plan(MAX_CAPACITY + 1, &[1]), Err(Refusal::CapacityOverLimit));
+    assert_eq!(plan(MAX_CAPACITY + 1, &[1]), Err(Refusal::CapacityAboveLimit));
     assert_eq!(plan(1, &[1, MAX_HARVEST]), Ok(()));
     assert_eq!(
         plan(1, &[1, MAX_HARVEST + 1]),
-        Err(Refusal::HarvestOverLimit { frame: 2 })
+        Err(Refusal::HarvestAboveLimit { frame: 2 })
     );
     assert_eq!(plan(1, &[1; MAX_FRAMES]), Ok(()));
-    assert_eq!(plan(1, &[1; MAX_FRAMES + 1]), Err(Refusal::TooLong));
+    assert_eq!(plan(1, &[1; MAX_FRAMES + 1]), Err(Refusal::TooManyFrames));
     assert_eq!(bounded(0, MAX_BOUND), Ok(()));
     assert_eq!(bounded(0, NO_UPPER_END), Ok(()));
-    assert_eq!(bounded(MAX_BOUND, MAX_BOUND), Err(Refusal::LeastsNotFeasible));
+    assert_eq!(bounded(MAX_BOUND, MAX_BOUND), Err(Refusal::LeastsOutOfReach));
     for (least, most) in [
         (1, 0),
         (0, MAX_BOUND + 1),
@@ -49,20 +49,6 @@ fn limits_are_the_librarys() {
         assert_eq!(bounded(least, most), Err(Refusal::BadBounds { frame: 2 }));
     }
     let read = |bytes: usize| Linked.read(&vec![0xff; bytes], &mut [0; 1], &mut [0; 1], &mut [0; 1]);
-    assert_eq!(read(MAX_FILE_BYTES), Err(Refusal::Malformed { word: 0 }));
-    assert_eq!(read(MAX_FILE_BYTES + 1), Err(Refusal::TooLong));
-}
-
-#[test]
-fn a_refusal_keeps_its_number_and_p() {
-    let with_p = [6, 8, 9, 10, 21];
-    for number in (1..=11).chain(20..=22) {
-        let p = if with_p.contains(&number) { 4711 } else { 0 };
-        let refusal = Refusal::from_code(number, p);
-        assert_eq!((refusal.number(), refusal.p()), (number, p));
-        assert_eq!(refusal.to_string(), format!("refused {number} {p}"));
-        assert!(!matches!(refusal, Refusal::Unknown { .. }));
-        assert_eq!(refusal.sentence().contains("4711"), p != 0, "{}", refusal.sentence());
-    }
-    assert_eq!(Refusal::from_code(30, 1), Refusal::Unknown { number: 30, p: 1 });
+    assert_eq!(read(MAX_FILE_BYTES), Err(Refusal::BadWord { word: 0 }));
+    assert_eq!(read(MAX_FILE_BYTES + 1), Err(Refusal::TooManyFrames));
 }
