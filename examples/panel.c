@@ -88,8 +88,10 @@ static void plan_rest(struct EnergyShift shift)
         say(rest.refusal);
         return;
     }
-    if (rest.is_short)
-        printf("nothing is feasible; with budgets 0 the end charge misses %" PRIu64 " Wh\n", rest.missing);
+    if (rest.is_short && rest.missing == 0)
+        printf("nothing within the bounds is feasible\n");
+    else if (rest.is_short)
+        printf("nothing is feasible: with budgets of 0 the end charge misses %" PRIu64 " Wh\n", rest.missing);
     struct EnergyPartAnswer part = energy_shift_rest_part(shift, budgets, K);
     show("rest", budgets + part.from, part.length);
 }

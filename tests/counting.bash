@@ -1,4 +1,6 @@
 # Sourced by the scripts of this folder and by the gate: what passed and what failed, and the last line that says so.
+export LC_ALL=C.UTF-8 # what the tools say is compared
+unset LANGUAGE
 passed=0
 failed=0
 least_file=$(dirname "${BASH_SOURCE[0]}")/least

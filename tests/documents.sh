@@ -1,7 +1,6 @@
 #!/usr/bin/env bash
 # The documents against the files: every name in a READING table of names stands in the file beside it, every inner function is public,
-# the entries ask nothing and promise what READING says, must-fail edits have controls, the outputs in README are those of the programs, and
-# the lists of foreign crates are one.
+# the entries ask nothing and promise what READING says, must-fail edits have controls, and the lists of foreign crates are one.
 # The last line is 'N passed, M failed'.
 set -u
 cd "$(dirname "$0")/.." || exit 2
@@ -23,20 +22,32 @@ stands() {
     esac
 }
 
-# every row of a table headed 'name | file': one file, and the names in the cell before it
-named=0
-while IFS='|' read -r start _ names file _; do
-    if [ "$names|$file" = ' name | file ' ]; then named=1; continue; fi
-    [ -z "$start" ] && [ -n "$names" ] || named=0
-    [ $named -eq 1 ] && [ "$names" != --- ] || continue
-    file=$(tr -d '` ' <<<"$file")
-    found=$(grep -o '`[^`]*`' <<<"$names" | tr -d '`')
+# stand NAMES FILE: the names of one cell in the file of the next one
+stand() {
+    local file found name
+    file=$(tr -d '` ' <<<"$2")
+    found=$(grep -o '`[^`]*`' <<<"$1" | tr -d '`')
     [ -n "$found" ]
     verdict $? "READING: no name beside $file"
     for name in $found; do
         stands "$name" "$file"
         verdict $? "READING: no $name in $file"
     done
+}
+
+# every row of a table headed 'name | file', and of one headed 'name | file | shown by | in': one file, and the names in the cell before it
+named=0
+shown=0
+while IFS='|' read -r start _ names file theorems there _; do
+    if [ "$names|$file" = ' name | file ' ]; then
+        named=1
+        [ "$theorems|$there" = ' shown by | in ' ] && shown=1 || shown=0
+        continue
+    fi
+    [ -z "$start" ] && [ -n "$names" ] || named=0
+    [ $named -eq 1 ] && [ "$names" != --- ] || continue
+    stand "$names" "$file"
+    [ $shown -eq 0 ] || stand "$theorems" "$there"
 done <docs/READING.md
 
 # names_in TABLE: 'crate name' for every name in READING's table with this head: the crate is the first cell, or begins the second one's path
@@ -129,6 +140,10 @@ done < <(rows_of '| promise | fields | file |')
 check 'READING: promises without their fields' '' "$(comm -23 <(grep -rhoE '^pub record [A-Za-z]+(Says|Means|Demand|Demand3) ' crates/*/specs | cut -d' ' -f3 | sort) \
     <(rows_of '| promise | fields | file |' | cut -d'|' -f2 | tr -d '` ' | sort))"
 
+# the table of crates has each crate once
+check 'READING: the crates' "$(sed -n 's/^\([a-z]*\)[ :].*/\1/p' crates.txt | sort)" \
+    "$(rows_of '| crate | what it holds |' | cut -d'|' -f2 | tr -d '` ' | tr , '\n' | sort)"
+
 # every must-fail edit has a control of its shape, and every shared error of the list can still be made
 counted tools/controls
 check 'must-fail edits with a control of their own' "$(least controls)" "$(grep -l '^# control: ' crates/*/must-fail/*.edit | wc -l)"
@@ -139,10 +154,8 @@ cases=$((1 + $(grep -cE '^    ∷ [a-z(]' crates/cases/specs/Cases.antt)))
 [ "$cases" -ge "$(least cases)" ]
 verdict $? "the table of cases has $cases rows, and tests/least says '$(least cases)'"
 
-for program in plan day; do
-    [ -s crates/$program/stdout ] && [[ $(cat README.md) == *"$(cat crates/$program/stdout)"* ]]
-    verdict $? "README: not what $program prints"
-done
+[[ $(cat docs/WORD-FILE.md) == *$'```text\n'"$(cat crates/day/stdout)"$'\n```'* ]]
+verdict $? 'WORD-FILE: not what day prints'
 
 # the foreign crates of rust/*/Cargo.toml, with the part of their versions that stays; tools/install has Debian's names, some with a feature
 foreign=$(sed -sn '/dependencies\]$/,/^$/p' rust/*/Cargo.toml |

@@ -3,13 +3,12 @@
 # The last line is 'N passed, M failed'.
 set -u
 cd "$(dirname "$0")/.." || exit 2
-program=crates/plan/out/plan
 source tests/counting.bash
+source tests/plan.bash
 folder=$(mktemp -d)
 trap 'rm -rf "$folder"' EXIT
 
-is_built() { [ -x "$program" ] && [ -z "$(find crates.txt crates -path 'crates/*/out' -prune -o -type f -newer "$program" -print -quit)" ]; }
-is_built || (cd crates/plan && rt run </dev/null) >"$folder/build" 2>&1 || { cat "$folder/build"; echo '0 passed, 1 failed'; exit 1; }
+plan_built >"$folder/build" 2>&1 || { cat "$folder/build"; echo '0 passed, 1 failed'; exit 1; }
 
 # the limits that the header names
 figure() { sed -n "s/^#define ENERGY_$1 \([0-9]*\)\$/\1/p" include/energy.h; }
