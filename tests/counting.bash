@@ -1,4 +1,4 @@
-# Sourced by the scripts of this folder and by the gate: what passed and what failed, and the last line that says so.
+# Sourced by the scripts of this folder and by the gate: what passed and what failed, the last line that says so, and numbers of the header.
 export LC_ALL=C.UTF-8 # what the tools say is compared
 unset LANGUAGE
 passed=0
@@ -7,6 +7,9 @@ least_file=$(dirname "${BASH_SOURCE[0]}")/least
 
 # least PATTERN: how much the names that match it pass at least, by the file of that name; nothing where no name does
 least() { awk -v names="^($1)\$" '$1 ~ names { sum += $2; found = 1 } END { if (found) print sum }' "$least_file"; }
+
+# figure NAME: a number that the header defines
+figure() { sed -n "s/^#define ENERGY_$1 \([0-9]*\)\$/\1/p" include/energy.h; }
 
 # verdict STATUS NAME
 verdict() {

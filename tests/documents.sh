@@ -192,6 +192,7 @@ house_curve() {
 }
 for curve in 0 1 2; do
     check "header: house curve $curve" "$(house_curve $curve)" "$(sed -nE "s/^ \* ([0-9].*) above, by house curve $curve.*/\1/p" include/energy.h | sed 's/ up to / /g; s/,//g')"
+    check "README: house curve $curve" "$(house_curve $curve)" "$(sed -nE "s/^\| $curve \| ([0-9].*) \|$/\1/p" README.md | sed 's/ up to / /g; s/,//g; s/ then / /')"
 done
 
 version=$(sed -nE 's/^#define ENERGY_VERSION_(MAJOR|MINOR|PATCH) ([0-9]+)$/\2/p' include/energy.h | paste -sd .)

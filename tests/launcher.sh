@@ -123,7 +123,7 @@ older() { touch -d '1 hour ago' "$folder/target/gomzhiva.built"; }
 told() { sed "s|$folder/||" "$folder/told"; }
 logged() { grep -E 'Compiling|NOT PROVED|error' "$folder/target/gomzhiva.log"; }
 
-begins='gomzhiva: not built, or older than its sources: proving the library and building the program; from nothing this takes 5 minutes on four processors
+begins='gomzhiva: not built, or older than its sources: proving the library and building the program; from nothing this takes 5 to 6 minutes on four processors
 gomzhiva: the log is target/gomzhiva.log'
 proves='gomzhiva: 1 of 3 crates proved already
 gomzhiva: 2 of 3 crates proved: model

@@ -1,7 +1,7 @@
 #!/usr/bin/env bash
 # The pages against what they show: each command of a page's `console` blocks, run in a folder that has what the repository has, prints what
-# stands below it; each picture of a page is what a command of the page draws; what pages say of files holds (tools/pages); README's limits and
-# house curves are those of the header and of the definitions; and what README says of the first call is so.
+# stands below it; each picture of a page is what a command of the page draws; what pages say of files holds (tools/pages); their limits and the
+# words of a word file are those of the header and of the definitions; and what README says of the first call is so.
 # The last line is 'N passed, M failed'.
 set -u
 cd "$(dirname "$0")/.." || exit 2
@@ -50,8 +50,7 @@ for page in README.md docs/*.md rust/README.md rust/*/README.md; do [ ! -e "$pag
 check 'a built program is not built again' "$built" "$(stat -c %y.%i target/gomzhiva.built)"
 counted tools/pages
 
-# figure NAME: a limit of the header; in_threes: with its digits in threes; says PAGE ROW FIGURE: the line that begins so has the figure
-figure() { sed -n "s/^#define ENERGY_$1 \([0-9]*\)\$/\1/p" include/energy.h; }
+# in_threes: a number with its digits in threes; says PAGE ROW FIGURE: the line that begins so has the figure
 in_threes() { sed ':a; s/\([0-9]\)\([0-9]\{3\}\)\($\|,\)/\1,\2\3/; ta'; }
 says() {
     [ -n "$3" ] && grep "^$2" "$1" | grep -qw -- "$3"
@@ -74,13 +73,6 @@ done
 
 # the oldest Rust is the packages' own
 for page in docs/RUST.md rust/README.md; do says "$page" '.*Rust' "$(sed -n 's/^rust-version = "\(.*\)"/\1/p' rust/energy/Cargo.toml)"; done
-
-# its house curves are those of the definitions: edge by edge, and the last gain beyond
-curves=$(sed -n 's/^house_curve .* edges = \(.*\) ∷ \[\]; gains = \(.*\) ∷ \[\] }$/\1 | \2/p' crates/model/specs/Curves.antt |
-    awk -F' [|] ' '{ n = split($1, edges, " ∷ "); split($2, gains, " ∷ "); row = "| " NR - 1 " |"
-        for (i = 1; i <= n; i++) row = row " " gains[i] " up to " edges[i] ","
-        print row " then " gains[n + 1] " |" }')
-check "README's house curves" "$curves" "$(grep '^| [0-2] | ' README.md)"
 
 told=$(grep -o '[0-9]\+ minutes on four processors' bin/gomzhiva)
 said=$(grep '^bin/gomzhiva plan .* first call' README.md | grep -o '[0-9]\+ minutes on four processors')

@@ -11,7 +11,6 @@ trap 'rm -rf "$folder"' EXIT
 plan_built >"$folder/build" 2>&1 || { cat "$folder/build"; echo '0 passed, 1 failed'; exit 1; }
 
 # the limits that the header names
-figure() { sed -n "s/^#define ENERGY_$1 \([0-9]*\)\$/\1/p" include/energy.h; }
 most=$(figure MAX_FRAMES)
 other=$(figure OTHER_WORDS)
 bytes=$((4 * ($(figure FRAME_WORDS) * most + other)))

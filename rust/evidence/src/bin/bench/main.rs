@@ -44,14 +44,22 @@ rust/cargo runs in the folder rust: files are named from there.";
 /// The first lines of the whole table.
 const TITLE: &str = "# The whole table of the benchmark\n\nWhat its columns mean: `docs/BENCHMARKS.md`.";
 
+/// What is measured.
+#[derive(Default)]
+enum Part {
+    #[default]
+    All,
+    Instructions,
+    Calls,
+    Linear,
+}
+
 /// What the arguments ask for.
 #[derive(Default)]
 struct Asked {
     beside: Option<Beside>,
     table: Option<PathBuf>,
-    instructions: bool,
-    calls: bool,
-    linear: bool,
+    part: Part,
     /// Plays the calls that callgrind counts: for the run under it alone.
     played: Option<Call>,
 }
@@ -65,9 +73,9 @@ fn asked() -> Result<Asked, String> {
         match word.as_str() {
             "--beside" => asked.beside = Some(Beside::load(value()?)?),
             "--table" => asked.table = Some(value()?.into()),
-            "--instructions" => asked.instructions = true,
-            "--calls" => asked.calls = true,
-            "--linear" => asked.linear = true,
+            "--instructions" => asked.part = Part::Instructions,
+            "--calls" => asked.part = Part::Calls,
+            "--linear" => asked.part = Part::Linear,
             instructions::PLAY => asked.played = Some(Call::of_name(&value()?)?),
             _ => return Err(HELP.to_string()),
         }
@@ -166,12 +174,15 @@ fn run_all(beside: Option<&Beside>, table: Option<&Path>) -> Result<(), String> 
 /// Does what is asked for.
 fn answer(asked: &Asked) -> Result<(), String> {
     let beside = asked.beside.as_ref();
-    match asked.played {
-        Some(call) => instructions::play(call, beside),
-        None if asked.instructions => run_instructions(beside)?,
-        None if asked.calls => run_calls(),
-        None if asked.linear => rest::compare_with_solver(),
-        None => run_all(beside, asked.table.as_deref())?,
+    if let Some(call) = asked.played {
+        instructions::play(call, beside);
+        return Ok(());
+    }
+    match asked.part {
+        Part::All => run_all(beside, asked.table.as_deref())?,
+        Part::Instructions => run_instructions(beside)?,
+        Part::Calls => run_calls(),
+        Part::Linear => rest::compare_with_solver(),
     }
     Ok(())
 }
