@@ -1,6 +1,7 @@
 #!/usr/bin/env bash
 # bin/gomzhiva in a folder with a blank in its name where installing, proving and building are stand-ins that succeed or fail: what is not proved is
-# never run, what is told of it is told in time, and nothing runs on; then tools/install and tools/library over stand-ins for apt-get and rattle.
+# never run, what is told of it is told in time, and nothing runs on; then tools/install and tools/library over stand-ins for apt-get and rattle, and
+# tools/bench over stand-ins for these.
 # The last line is 'N passed, M failed'.
 set -u
 cd "$(dirname "$0")/.." || exit 2
@@ -265,5 +266,27 @@ check 'what is told is what is installed' "$(head -n 1 <<<"$said" | packages ins
 touch "$real"/debian/{installed,cc,cargo,make}
 chmod +x "$real"/debian/{cc,cargo,make}
 check 'nothing is missing: nothing is told or done' '' "$(install)"
+
+# tools/bench over stand-ins for what it runs first: that is told on standard error, and what is asked is handed on
+bench=$folder/bench
+mkdir -p "$bench"/{tools,rust,target/rust/release}
+cp tools/bench "$bench/tools"
+for name in tools/install tools/library rust/cargo; do
+    stand_in "$bench/$name" <<'EOF'
+#!/bin/sh
+echo "${0##*/} $*"
+[ ! -e "$0.fails" ] || exit 2
+EOF
+done
+stand_in "$bench/target/rust/release/bench" <<'EOF'
+#!/bin/sh
+echo "asked $*"
+exit 1
+EOF
+bench() { "$bench/tools/bench" --week 2>"$bench/told"; echo "status $?"; }
+check 'the benchmark says what was asked, and ends as it does' $'asked --week\nstatus 1' "$(bench)"
+check 'what it needs is there before' $'install bench\nlibrary \ncargo build --release -p evidence --bin bench' "$(cat "$bench/told")"
+touch "$bench/tools/library.fails"
+check 'nothing is measured of what is not proved' 'status 2' "$(bench)"
 
 finish launcher.sh

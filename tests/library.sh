@@ -1,7 +1,7 @@
 #!/usr/bin/env bash
-# The tests from outside: the Rust tests over libenergy.a, the program's among them, every function called from C, what
-# stack it takes, what the archive is and needs, the declarations for Rust against the header, and the examples in C and
-# Rust.
+# The tests from outside: the Rust tests over libenergy.a, the program's among them, how often a harvest is read, every
+# function called from C, what stack it takes, what the archive is and needs, the declarations for Rust against the
+# header, and the examples in C and Rust.
 # Its last line is 'N passed, M failed'; anything failed exits non-zero.
 set -u
 cd "$(dirname "$0")/.." || exit 2
@@ -59,6 +59,8 @@ while read -r ok bad; do
     failed=$((failed + bad))
 done < <(sed -n 's/^test result: .* \([0-9]*\) passed; \([0-9]*\) failed;.*/\1 \2/p' "$work/log")
 verdict "$status" 'Rust tests'
+rust/cargo run -q -p evidence --bin bench -- --reads
+verdict $? 'no harvest is read more often than the passes of docs/BENCHMARKS.md come to'
 compare 'example in Rust' tests/example.out rust/cargo run -q -p energy --example plan
 
 rust/energy/bindings --check

@@ -1,12 +1,16 @@
-//! Document 01's entries by guess, certify, follow, the rest as in the reference: the baseline for speed.
+//! The entries over the algorithms here, the shift's but for planning as in the reference: the library's twin, the
+//! baseline for speed.
 
 use crate::algorithms::certificate::frame::{Bounded, Plain};
 use crate::algorithms::certificate::{plan_frames, Counters, Scratch};
+use crate::algorithms::lines::{self, Shown};
+use crate::algorithms::looks::{bounds_fit, figures_fit, lists_fit};
+use crate::algorithms::{tracing, words};
 use crate::reference::charge::{unlimited, Store};
-use crate::reference::limits::NO_UPPER_END;
+use crate::reference::limits::{MAX_FRAMES, NO_UPPER_END};
 use crate::reference::needed::by_requirement;
 use crate::reference::refusals::{self, Checked};
-use crate::reference::{listing, shift, Reference};
+use crate::reference::{curves, shift, Reference};
 use energy::{Energy, Figures, Frames, Header, NotRecorded, Refusal, Rest, Shift, Verdict};
 
 /// The fast implementation in Rust.
@@ -60,6 +64,59 @@ fn plan(store: Store, frames: Frames) -> Vec<u32> {
     budgets
 }
 
+/// The needed capacity of a request that is not refused.
+fn needed(figures: Figures, frames: Frames) -> u64 {
+    let store = figures.into();
+    let open_plan = plan(unlimited(store, frames.harvest), frames);
+    by_requirement(store, frames.harvest, &open_plan)
+}
+
+/// What tracing refuses.
+fn trace_refusal(figures: Figures, harvest: &[u32], budgets: usize, charges: usize, losses: usize) -> Checked {
+    if lists_fit(harvest.len(), &[budgets, charges, losses]) && figures_fit(figures, harvest) {
+        return Ok(());
+    }
+    refusals::trace(figures, harvest, budgets, charges, losses)
+}
+
+/// What writing refuses.
+fn write_refusal(figures: Figures, frames: Frames, room: usize) -> Checked {
+    let Frames { harvest, least, most } = frames;
+    let fits = lists_fit(harvest.len(), &[least.len(), most.len()])
+        && words::file_bytes(frames) <= room
+        && figures_fit(figures, harvest)
+        && bounds_fit(frames);
+    if fits {
+        return Ok(());
+    }
+    refusals::write(figures, frames, room)
+}
+
+/// Writes the listing of a file, and gives the number of bytes, unless it is refused.
+fn list(file: &[u8], text: &mut [u8]) -> Result<usize, Refusal> {
+    let [mut harvest, mut least, mut most, mut budgets, mut losses] = [[0; MAX_FRAMES]; 5];
+    let mut charges = [0; MAX_FRAMES];
+    let Header { figures, frames } = words::read(file, &mut harvest, &mut least, &mut most)?;
+    let lists = Frames {
+        harvest: &harvest[..frames],
+        least: &least[..frames],
+        most: &most[..frames],
+    };
+    let (budgets, charges, losses) = (&mut budgets[..frames], &mut charges[..frames], &mut losses[..frames]);
+    plan_refusal(figures, lists, frames)?;
+    plan_into(figures.into(), lists, budgets, &mut Counters::default());
+    tracing::fill(figures, lists.harvest, budgets, charges, losses);
+    let shown = Shown {
+        figures,
+        needed: needed(figures, lists),
+        worth: curves::grade(budgets),
+        budgets,
+        charges,
+        losses,
+    };
+    Ok(lines::write(&shown, text))
+}
+
 impl Energy for Fast {
     fn name(&self) -> &'static str {
         "fast"
@@ -73,9 +130,7 @@ impl Energy for Fast {
 
     fn needed(&self, figures: Figures, frames: Frames) -> Result<u64, Refusal> {
         needed_refusal(figures, frames)?;
-        let store = figures.into();
-        let open_plan = plan(unlimited(store, frames.harvest), frames);
-        Ok(by_requirement(store, frames.harvest, &open_plan))
+        Ok(needed(figures, frames))
     }
 
     fn trace(
@@ -86,7 +141,9 @@ impl Energy for Fast {
         charges: &mut [i64],
         losses: &mut [u32],
     ) -> Result<Verdict, Refusal> {
-        Reference.trace(figures, harvest, budgets, charges, losses)
+        trace_refusal(figures, harvest, budgets.len(), charges.len(), losses.len())?;
+        tracing::fill(figures, harvest, budgets, charges, losses);
+        Ok(tracing::judge(figures, charges))
     }
 
     fn grade(&self, budgets: &[u32]) -> Result<[u64; 3], Refusal> {
@@ -110,14 +167,15 @@ impl Energy for Fast {
     }
 
     fn read(&self, file: &[u8], harvest: &mut [u32], least: &mut [u32], most: &mut [u32]) -> Result<Header, Refusal> {
-        Reference.read(file, harvest, least, most)
+        words::read(file, harvest, least, most)
     }
 
     fn write(&self, figures: Figures, frames: Frames, file: &mut [u8]) -> Result<usize, Refusal> {
-        Reference.write(figures, frames, file)
+        write_refusal(figures, frames, file.len())?;
+        Ok(words::write(figures, frames, file))
     }
 
     fn listing(&self, file: &[u8], text: &mut [u8]) -> usize {
-        listing::listing(self, file, text)
+        list(file, text).unwrap_or_else(|refusal| lines::refuse(refusal.number(), refusal.p(), text))
     }
 }

@@ -1,4 +1,4 @@
-//! Benchmarks: `rust/cargo run --release --bin bench -- --help` says what can be asked for.
+//! Benchmarks: `tools/bench --help` says what can be asked for.
 
 mod against;
 mod aims;
@@ -9,6 +9,7 @@ mod chill;
 mod cold;
 mod columns;
 mod contenders;
+mod failure;
 mod growth;
 mod guess;
 mod instructions;
@@ -16,30 +17,40 @@ mod measured;
 mod rest;
 mod rows;
 mod search;
+mod steps;
 mod subject;
 mod table;
 mod time;
+mod twins;
+mod valgrind;
 mod warm;
+mod week;
 mod words;
 
 use beside::Beside;
 use contenders::Call;
 use energy::MAX_HARVEST;
 use evidence::random::seed;
+use failure::Failure;
 use measured::{Column, Measured};
 use search::Searched;
 use std::path::{Path, PathBuf};
 
 const HELP: &str = "\
-bench [--beside FILE.so] [--table FILE]     times, counted instructions, the aims, files, shifts, the linear programs
-bench --instructions [--beside FILE.so]     counted instructions alone, with the aims for them
-bench --calls                               what each function of the header takes at most, on its longest requests
-bench --linear                              the plan's worth against the optimum of glpsol, by each house curve
+tools/bench --week                            half a week against a week: a hundred random requests of each, and their
+                                              shifts, planned anew at every frame; ends with 1 where a limit is missed
+tools/bench --steps                           instructions of what every request pays beside its plan, and of other steps
+tools/bench --reads                           how often a harvest is read; ends with 1 where it is too often
+tools/bench --twins                           trace, writing, reading and the listing beside the same in Rust
+tools/bench --calls                           what each function of the header takes at most, on its longest requests
+tools/bench --linear                          the plan's worth against the optimum of glpsol, by each house curve
+tools/bench --instructions [--beside FILE.so] counted instructions by families of requests, with the aims for them
+tools/bench [--beside FILE.so] [--table FILE] the same with times and their aims; --twins, a shift of a day, --linear
 
 --beside FILE.so   another build of the library in the same run; its columns have the file's name. It is made by
                    cc -shared -o FILE.so -Wl,--whole-archive libenergy.a -Wl,--no-whole-archive
 --table FILE       writes the whole table there; the summary is printed
-rust/cargo runs in the folder rust: files are named from there.";
+ENERGY_SEED        in the environment: a whole number, by which random requests are drawn";
 
 /// The first lines of the whole table.
 const TITLE: &str = "# The whole table of the benchmark\n\nWhat its columns mean: `docs/BENCHMARKS.md`.";
@@ -49,9 +60,14 @@ const TITLE: &str = "# The whole table of the benchmark\n\nWhat its columns mean
 enum Part {
     #[default]
     All,
+    Help,
     Instructions,
     Calls,
     Linear,
+    Reads,
+    Steps,
+    Twins,
+    Week,
 }
 
 /// What the arguments ask for.
@@ -60,8 +76,8 @@ struct Asked {
     beside: Option<Beside>,
     table: Option<PathBuf>,
     part: Part,
-    /// Plays the calls that callgrind counts: for the run under it alone.
-    played: Option<Call>,
+    /// The calls that are played: for the run under valgrind alone.
+    played: Option<String>,
 }
 
 /// The arguments, or what is wrong with them.
@@ -76,8 +92,13 @@ fn asked() -> Result<Asked, String> {
             "--instructions" => asked.part = Part::Instructions,
             "--calls" => asked.part = Part::Calls,
             "--linear" => asked.part = Part::Linear,
-            instructions::PLAY => asked.played = Some(Call::of_name(&value()?)?),
-            _ => return Err(HELP.to_string()),
+            "--reads" => asked.part = Part::Reads,
+            "--steps" => asked.part = Part::Steps,
+            "--twins" => asked.part = Part::Twins,
+            "--week" => asked.part = Part::Week,
+            "--help" => asked.part = Part::Help,
+            valgrind::PLAY => asked.played = Some(value()?),
+            _ => return Err(format!("what is {word}?\n\n{HELP}")),
         }
     }
     Ok(asked)
@@ -97,10 +118,13 @@ fn load() -> String {
     text.split(' ').next().unwrap_or_default().to_string()
 }
 
-/// The line above every table, with the load before the run and after it.
-fn heading(most: &str, before: &str) -> String {
-    let (seed, machine, after) = (seed(), machine(), load());
-    format!("largest harvest {most}; seed {seed}; machine: {machine}; load {before} before and {after} after")
+/// What is measured, and the line above it, with the load before and after.
+fn headed<T>(most: &str, measure: impl FnOnce() -> T) -> (String, T) {
+    let (before, told, after) = (load(), measure(), load());
+    let (seed, machine) = (seed(), machine());
+    let heading =
+        format!("largest harvest {most}; seed {seed}; machine: {machine}; load {before} before and {after} after");
+    (heading, told)
 }
 
 /// What some columns tell.
@@ -132,10 +156,43 @@ fn run_instructions(beside: Option<&Beside>) -> Result<(), String> {
 
 /// What the calls take at most.
 fn run_calls() {
-    let before = load();
-    let table = calls::measure();
-    let most = format!("{} and {MAX_HARVEST}", rows::MOST);
-    print!("{}\n\n{table}", heading(&most, &before));
+    let (heading, table) = headed(&format!("{} and {MAX_HARVEST}", rows::MOST), calls::measure);
+    print!("{heading}\n\n{table}");
+}
+
+/// Half a week against a week.
+fn run_week() -> Result<(), Failure> {
+    let (heading, (table, missed)) = headed(&week::mosts(), week::measure);
+    print!("{heading}\n\n{table}");
+    Failure::of_missed(missed)
+}
+
+/// How often a harvest is read.
+fn run_reads() -> Result<(), Failure> {
+    let (table, missed) = steps::reads::measure()?;
+    print!("seed {}\n\n{table}", seed());
+    Failure::of_missed(missed)
+}
+
+/// What the steps of a call take.
+fn run_steps() -> Result<(), String> {
+    let table = steps::paid::measure()?;
+    print!("largest harvest {}; seed {}\n\n{table}", rows::MOST, seed());
+    Ok(())
+}
+
+/// The other calls beside their twins.
+fn run_twins() {
+    let (heading, table) = headed(&rows::MOST.to_string(), twins::measure);
+    print!("{heading}\n\n{table}");
+}
+
+/// Plays the calls of a name.
+fn play(name: &str, beside: Option<&Beside>) -> Result<(), String> {
+    if !steps::play(name) {
+        instructions::play(Call::of_name(name)?, beside);
+    }
+    Ok(())
 }
 
 /// What is printed of everything that was measured.
@@ -151,45 +208,55 @@ fn summary(measured: &Measured, searched: &Searched) -> String {
     sections.concat()
 }
 
-/// Everything, with the whole table in a file if one is named.
-fn run_all(beside: Option<&Beside>, table: Option<&Path>) -> Result<(), String> {
-    let before = load();
+/// Times and counts of the families, and the times of the search.
+fn measure_families(beside: Option<&Beside>) -> (Measured, Searched) {
     let mut columns = instructions::count(beside).unwrap_or_else(|reason| {
         println!("{reason}");
         Vec::new()
     });
     let (times, searched) = time::measure(beside);
     columns.extend(times);
-    let measured = measured(columns, beside);
-    let heading = heading(&rows::MOST.to_string(), &before);
+    (measured(columns, beside), searched)
+}
+
+/// Everything, with the whole table in a file if one is named.
+fn run_all(beside: Option<&Beside>, table: Option<&Path>) -> Result<(), String> {
+    let (heading, (measured, searched)) = headed(&rows::MOST.to_string(), || measure_families(beside));
     print!("{heading}\n\n{}", summary(&measured, &searched));
     if let Some(path) = table {
         let text = format!("{TITLE}\n\n{heading}\n\n{}", table::whole(&measured, Some(&searched)));
         std::fs::write(path, text).map_err(|error| format!("{}: {error}", path.display()))?;
     }
+    println!("\n## Trace, files, listing\n\n{}", twins::measure());
     rest::measure();
     Ok(())
 }
 
 /// Does what is asked for.
-fn answer(asked: &Asked) -> Result<(), String> {
+fn answer(asked: &Asked) -> Result<(), Failure> {
     let beside = asked.beside.as_ref();
-    if let Some(call) = asked.played {
-        instructions::play(call, beside);
-        return Ok(());
+    if let Some(name) = &asked.played {
+        return Ok(play(name, beside)?);
     }
     match asked.part {
         Part::All => run_all(beside, asked.table.as_deref())?,
+        Part::Help => println!("{HELP}"),
         Part::Instructions => run_instructions(beside)?,
         Part::Calls => run_calls(),
         Part::Linear => rest::compare_with_solver(),
+        Part::Reads => run_reads()?,
+        Part::Steps => run_steps()?,
+        Part::Twins => run_twins(),
+        Part::Week => run_week()?,
     }
     Ok(())
 }
 
 fn main() {
-    if let Err(reason) = asked().and_then(|asked| answer(&asked)) {
+    let answered = asked().map_err(Failure::from).and_then(|asked| answer(&asked));
+    if let Err(failure) = answered {
+        let (reason, code) = failure.told();
         eprintln!("{reason}");
-        std::process::exit(2);
+        std::process::exit(code);
     }
 }

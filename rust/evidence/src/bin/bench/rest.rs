@@ -1,4 +1,4 @@
-//! The rest of the run: files, a shift, and the linear programs.
+//! The rest of the run: a shift, and the linear programs.
 
 use crate::contenders::black_box;
 use crate::rows::MOST;
@@ -9,12 +9,11 @@ use evidence::families::{bounded, request, Family, Size, FRAMES};
 use evidence::lists::Lists;
 use evidence::random::{seed, Random};
 use evidence::reference::curves::{grade, Curve, HOUSE_CURVES};
-use evidence::reference::limits::{MAX_FILE_BYTES, MAX_FRAMES};
 use evidence::under_test;
 use std::time::Instant;
 
 /// A request of daily sun without bounds and with them: the same in every run with the same seed.
-fn daily_sun(size: Size, frames: usize) -> (Figures, [(&'static str, Lists); 2]) {
+pub fn daily_sun(size: Size, frames: usize) -> (Figures, [(&'static str, Lists); 2]) {
     let random = &mut Random::of_case(seed(), frames as u64);
     let (figures, harvest) = request(Family::DailySun, size, frames, MOST, random);
     let lists = bounded(figures, harvest.clone(), random);
@@ -29,29 +28,6 @@ fn plan_micros(energy: &dyn Energy, figures: Figures, frames: Frames) -> f64 {
         assert!(answer.is_ok());
         black_box(&budgets);
     })
-}
-
-/// Reading and writing files of the most frames.
-fn measure_files(all: &[Box<dyn Energy>]) {
-    println!("\n## Files of {MAX_FRAMES} frames\n");
-    let (figures, kinds) = daily_sun(Size::Middle, MAX_FRAMES);
-    for (kind, lists) in &kinds {
-        for energy in all {
-            let mut file = vec![0; MAX_FILE_BYTES];
-            let mut bytes = 0;
-            let write = alone(|| {
-                let written = energy.write(black_box(figures), black_box(lists.frames()), &mut file);
-                bytes = written.expect("a valid request");
-            });
-            let mut back = lists.clone();
-            let read = alone(|| {
-                let Lists { harvest, least, most } = &mut back;
-                assert!(energy.read(black_box(&file[..bytes]), harvest, least, most).is_ok());
-            });
-            assert_eq!(back, *lists);
-            println!("{kind}, {}: write {write:.2} us, read {read:.2} us", energy.name());
-        }
-    }
 }
 
 /// A shift of 96 frames, planned anew before every frame.
@@ -134,7 +110,6 @@ pub fn compare_with_solver() {
 /// Measures all of it.
 pub fn measure() {
     let all = under_test();
-    measure_files(&all);
     measure_shift(&all);
     measure_linear(&all);
 }

@@ -2,12 +2,15 @@
 //! caches hold was gone through before every call, so that code, stack and lists come from memory. A request's figure
 //! is the best round or the lower quartile of the passes; the table has the greatest over the requests.
 
+mod longest;
+
 use crate::cold::{clock, lower_quartile, once, shuffled};
 use crate::contenders::black_box;
-use crate::subject::{searched, subjects, Group, Subject, FUNCTIONS, GROUPS};
+use crate::subject::FUNCTIONS;
 use crate::table::{head, line};
 use crate::warm::{best, repeated};
 use crate::words::digits;
+use longest::{longest, searched, Group, Longest, GROUPS};
 
 /// How often each request is timed warm, cold, and with emptied caches.
 const ROUNDS: u64 = 10;
@@ -22,29 +25,29 @@ const CACHE_LINE: usize = 64;
 type Times = Vec<Vec<Vec<f64>>>;
 
 /// No times yet.
-fn untimed(subjects: &[Subject]) -> Times {
-    FUNCTIONS.iter().map(|_| vec![Vec::new(); subjects.len()]).collect()
+fn untimed(requests: &[Longest]) -> Times {
+    FUNCTIONS.iter().map(|_| vec![Vec::new(); requests.len()]).collect()
 }
 
 /// One round: each request called again and again.
-fn warm_round(subjects: &mut [Subject], times: &mut Times) {
+fn warm_round(requests: &mut [Longest], times: &mut Times) {
     for (function, times) in FUNCTIONS.iter().zip(times) {
-        for (subject, times) in subjects.iter_mut().zip(times) {
+        for (request, times) in requests.iter_mut().zip(times) {
             times.push(repeated(|| {
-                black_box((function.call)(subject));
+                black_box((function.call)(&mut request.subject));
             }));
         }
     }
 }
 
 /// One pass in random order: each call by itself, after something else was done.
-fn cold_pass(subjects: &mut [Subject], times: &mut Times, number: u64, mut before: impl FnMut(&Subject) -> bool) {
-    let (clock, order) = (clock(), shuffled(subjects.len(), number));
+fn cold_pass(requests: &mut [Longest], times: &mut Times, number: u64, mut before: impl FnMut(&Longest) -> bool) {
+    let (clock, order) = (clock(), shuffled(requests.len(), number));
     for (function, times) in FUNCTIONS.iter().zip(times) {
         for &i in &order {
-            if before(&subjects[i]) {
+            if before(&requests[i]) {
                 let time = once(|| {
-                    black_box((function.call)(&mut subjects[i]));
+                    black_box((function.call)(&mut requests[i].subject));
                 });
                 times[i].push(time - clock);
             }
@@ -61,32 +64,32 @@ fn sweep(memory: &mut [u8]) {
 }
 
 /// The greatest figure of a group's requests, as far as they were timed.
-fn greatest(subjects: &[Subject], times: &[Vec<f64>], group: Group, figure: fn(&[f64]) -> f64) -> f64 {
-    let of_group = subjects
+fn greatest(requests: &[Longest], times: &[Vec<f64>], group: Group, figure: fn(&[f64]) -> f64) -> f64 {
+    let of_group = requests
         .iter()
         .zip(times)
-        .filter(|(subject, times)| subject.group == group && !times.is_empty());
+        .filter(|(request, times)| request.group == group && !times.is_empty());
     of_group.map(|(_, times)| figure(times)).fold(0.0, f64::max)
 }
 
 /// A function's cell: a figure for each group.
-fn cell(subjects: &[Subject], times: &[Vec<f64>], figure: fn(&[f64]) -> f64) -> String {
-    let of_group = |group| digits(greatest(subjects, times, group, figure));
+fn cell(requests: &[Longest], times: &[Vec<f64>], figure: fn(&[f64]) -> f64) -> String {
+    let of_group = |group| digits(greatest(requests, times, group, figure));
     GROUPS.map(of_group).join(", ")
 }
 
 /// Times of all requests: warm, cold, and with emptied caches.
-fn time(subjects: &mut [Subject]) -> [Times; 3] {
-    let [mut warm, mut cold, mut emptied] = [(); 3].map(|()| untimed(subjects));
+fn time(requests: &mut [Longest]) -> [Times; 3] {
+    let [mut warm, mut cold, mut emptied] = [(); 3].map(|()| untimed(requests));
     let mut memory = vec![0; SWEPT];
-    (0..ROUNDS).for_each(|_| warm_round(subjects, &mut warm));
-    (0..PASSES).for_each(|i| cold_pass(subjects, &mut cold, i, |_| true));
+    (0..ROUNDS).for_each(|_| warm_round(requests, &mut warm));
+    (0..PASSES).for_each(|i| cold_pass(requests, &mut cold, i, |_| true));
     for i in 0..EMPTIED {
-        cold_pass(subjects, &mut emptied, i, |subject| {
-            if subject.is_first {
+        cold_pass(requests, &mut emptied, i, |request| {
+            if request.is_first {
                 sweep(&mut memory);
             }
-            subject.is_first
+            request.is_first
         });
     }
     [warm, cold, emptied]
@@ -100,15 +103,15 @@ fn search() -> String {
 
 /// Measures all of it, and gives the table.
 pub fn measure() -> String {
-    let mut subjects = subjects();
-    let [warm, cold, emptied] = time(&mut subjects);
+    let mut requests = longest();
+    let [warm, cold, emptied] = time(&mut requests);
     let mut text = head(["function", "warm", "cold", "emptied caches"].map(String::from));
     for (i, function) in FUNCTIONS.iter().enumerate() {
         text += &line([
             format!("`{}`", function.name),
-            cell(&subjects, &warm[i], best),
-            cell(&subjects, &cold[i], lower_quartile),
-            cell(&subjects, &emptied[i], lower_quartile),
+            cell(&requests, &warm[i], best),
+            cell(&requests, &cold[i], lower_quartile),
+            cell(&requests, &emptied[i], lower_quartile),
         ]);
     }
     format!("{text}\nEvery budget searched, in the twin: {}.\n", search())
