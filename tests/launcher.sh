@@ -269,8 +269,9 @@ check 'nothing is missing: nothing is told or done' '' "$(install)"
 
 # tools/bench over stand-ins for what it runs first: that is told on standard error, and what is asked is handed on
 bench=$folder/bench
-mkdir -p "$bench"/{tools,rust,target/rust/release}
+mkdir -p "$bench"/{tools,rust/evidence/src/bin/bench,target/rust/release}
 cp tools/bench "$bench/tools"
+echo 'bench --week' >"$bench/rust/evidence/src/bin/bench/help.txt"
 for name in tools/install tools/library rust/cargo; do
     stand_in "$bench/$name" <<'EOF'
 #!/bin/sh
@@ -286,7 +287,15 @@ EOF
 bench() { "$bench/tools/bench" --week 2>"$bench/told"; echo "status $?"; }
 check 'the benchmark says what was asked, and ends as it does' $'asked --week\nstatus 1' "$(bench)"
 check 'what it needs is there before' $'install bench\nlibrary \ncargo build --release -p evidence --bin bench' "$(cat "$bench/told")"
+check 'its help needs nothing' 'bench --week' "$(touch "$bench/tools/install.fails"; "$bench/tools/bench" --help)"
+check 'an option that there is not needs nothing either' $'what is --month? tools/bench --help says what there is\nstatus 2' \
+    "$("$bench/tools/bench" --month 2>&1; echo "status $?")"
+ln -s "$bench/tools/bench" "$folder/linked"
+rm "$bench/tools/install.fails" && check 'it can be called by a link' $'asked --week\nstatus 1' "$("$folder/linked" --week 2>/dev/null; echo "status $?")"
 touch "$bench/tools/library.fails"
+check 'another library is measured without a proof of this one' $'asked --week\nstatus 1' "$(ENERGY_LIB_DIR=. bench)"
+check 'a machine without the kit is told so' $'there is no rt here: the Rattle kit has it, and its folder belongs on the PATH\nstatus 2' \
+    "$(PATH=$real/debian "$BASH" "$real/tools/library" 2>&1; echo "status $?")"
 check 'nothing is measured of what is not proved' 'status 2' "$(bench)"
 
 finish launcher.sh

@@ -60,7 +60,7 @@ while read -r ok bad; do
 done < <(sed -n 's/^test result: .* \([0-9]*\) passed; \([0-9]*\) failed;.*/\1 \2/p' "$work/log")
 verdict "$status" 'Rust tests'
 rust/cargo run -q -p evidence --bin bench -- --reads
-verdict $? 'no harvest is read more often than the passes of docs/BENCHMARKS.md come to'
+verdict $? 'no harvest that is lent is read more often than docs/BENCHMARKS.md says, and no instructions grow by more'
 compare 'example in Rust' tests/example.out rust/cargo run -q -p energy --example plan
 
 rust/energy/bindings --check

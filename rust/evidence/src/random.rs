@@ -4,12 +4,20 @@
 #[derive(Clone, Debug)]
 pub struct Random(u64);
 
-/// The seed of a run: the environment's `ENERGY_SEED`, or a fixed one.
-pub fn seed() -> u64 {
+/// The seed of a run: the environment's `ENERGY_SEED`, or a fixed one; or what is wrong with the former.
+pub fn given_seed() -> Result<u64, String> {
     match std::env::var("ENERGY_SEED") {
-        Ok(text) => text.trim().parse().expect("ENERGY_SEED is a whole number below 2^64"),
-        Err(_) => 20_080_310,
+        Ok(text) => {
+            let seed = text.trim().parse();
+            seed.map_err(|_| format!("ENERGY_SEED is a whole number below 2^64, and not '{text}'"))
+        }
+        Err(_) => Ok(20_080_310),
     }
+}
+
+/// The seed of a run, which has to be one.
+pub fn seed() -> u64 {
+    given_seed().unwrap_or_else(|reason| panic!("{reason}"))
 }
 
 impl Random {

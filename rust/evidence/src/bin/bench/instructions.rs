@@ -21,7 +21,7 @@ fn means(call: Call, beside: Option<&Beside>) -> Result<Vec<Option<f64>>, String
     let function = call.function();
     let each = valgrind::instructions(function, function, beside, counts.iter().sum())?;
     let mut rest = each.into_iter();
-    let mean = |count: usize| rest.by_ref().take(count).sum::<u64>() as f64 / count as f64;
+    let mean = |count: usize| rest.by_ref().take(count).map(|part| part.total).sum::<u64>() as f64 / count as f64;
     Ok(counts.into_iter().map(mean).map(Some).collect())
 }
 

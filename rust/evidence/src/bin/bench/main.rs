@@ -30,36 +30,21 @@ mod words;
 use beside::Beside;
 use contenders::Call;
 use energy::MAX_HARVEST;
-use evidence::random::seed;
+use evidence::random::{given_seed, seed};
 use failure::Failure;
 use measured::{Column, Measured};
 use search::Searched;
+use std::fs::OpenOptions;
 use std::path::{Path, PathBuf};
 
-const HELP: &str = "\
-tools/bench --week                            half a week against a week: a hundred random requests of each, and their
-                                              shifts, planned anew at every frame; ends with 1 where a limit is missed
-tools/bench --steps                           instructions of what every request pays beside its plan, and of other steps
-tools/bench --reads                           how often a harvest is read; ends with 1 where it is too often
-tools/bench --twins                           trace, writing, reading and the listing beside the same in Rust
-tools/bench --calls                           what each function of the header takes at most, on its longest requests
-tools/bench --linear                          the plan's worth against the optimum of glpsol, by each house curve
-tools/bench --instructions [--beside FILE.so] counted instructions by families of requests, with the aims for them
-tools/bench [--beside FILE.so] [--table FILE] the same with times and their aims; --twins, a shift of a day, --linear
-
---beside FILE.so   another build of the library in the same run; its columns have the file's name. It is made by
-                   cc -shared -o FILE.so -Wl,--whole-archive libenergy.a -Wl,--no-whole-archive
---table FILE       writes the whole table there; the summary is printed
-ENERGY_SEED        in the environment: a whole number, by which random requests are drawn";
+/// What can be asked for; tools/bench prints it too.
+const HELP: &str = include_str!("help.txt");
 
 /// The first lines of the whole table.
 const TITLE: &str = "# The whole table of the benchmark\n\nWhat its columns mean: `docs/BENCHMARKS.md`.";
 
-/// What is measured.
-#[derive(Default)]
+/// A part of what can be measured, or the help.
 enum Part {
-    #[default]
-    All,
     Help,
     Instructions,
     Calls,
@@ -75,9 +60,31 @@ enum Part {
 struct Asked {
     beside: Option<Beside>,
     table: Option<PathBuf>,
-    part: Part,
+    part: Option<Part>,
     /// The calls that are played: for the run under valgrind alone.
     played: Option<String>,
+}
+
+impl Asked {
+    /// Asks for a part, if none is asked for yet.
+    fn ask(&mut self, part: Part) -> Result<(), String> {
+        match self.part.replace(part) {
+            Some(_) => Err("one part at a time".to_string()),
+            None => Ok(()),
+        }
+    }
+
+    /// Whether the files that are named go with the part.
+    fn fits(self) -> Result<Asked, String> {
+        let is_instructions = matches!(self.part, Some(Part::Instructions));
+        if self.part.is_some() && self.table.is_some() {
+            return Err("--table goes with no part".to_string());
+        }
+        if self.part.is_some() && !is_instructions && self.beside.is_some() {
+            return Err("--beside goes with --instructions alone, or with no part".to_string());
+        }
+        Ok(self)
+    }
 }
 
 /// The arguments, or what is wrong with them.
@@ -85,23 +92,26 @@ fn asked() -> Result<Asked, String> {
     let mut asked = Asked::default();
     let mut words = std::env::args().skip(1);
     while let Some(word) = words.next() {
-        let mut value = || words.next().ok_or_else(|| format!("{word} needs a value"));
+        let mut value = || {
+            let next = words.next().filter(|next| !next.starts_with("--"));
+            next.ok_or_else(|| format!("{word} needs a value"))
+        };
         match word.as_str() {
             "--beside" => asked.beside = Some(Beside::load(value()?)?),
             "--table" => asked.table = Some(value()?.into()),
-            "--instructions" => asked.part = Part::Instructions,
-            "--calls" => asked.part = Part::Calls,
-            "--linear" => asked.part = Part::Linear,
-            "--reads" => asked.part = Part::Reads,
-            "--steps" => asked.part = Part::Steps,
-            "--twins" => asked.part = Part::Twins,
-            "--week" => asked.part = Part::Week,
-            "--help" => asked.part = Part::Help,
+            "--instructions" => asked.ask(Part::Instructions)?,
+            "--calls" => asked.ask(Part::Calls)?,
+            "--linear" => asked.ask(Part::Linear)?,
+            "--reads" => asked.ask(Part::Reads)?,
+            "--steps" => asked.ask(Part::Steps)?,
+            "--twins" => asked.ask(Part::Twins)?,
+            "--week" => asked.ask(Part::Week)?,
+            "--help" => asked.ask(Part::Help)?,
             valgrind::PLAY => asked.played = Some(value()?),
-            _ => return Err(format!("what is {word}?\n\n{HELP}")),
+            _ => return Err(format!("what is {word}?\n\n{}", HELP.trim_end())),
         }
     }
-    Ok(asked)
+    asked.fits()
 }
 
 /// The processor's name, if the system tells it.
@@ -163,14 +173,16 @@ fn run_calls() {
 /// Half a week against a week.
 fn run_week() -> Result<(), Failure> {
     let (heading, (table, missed)) = headed(&week::mosts(), week::measure);
-    print!("{heading}\n\n{table}");
+    print!("{heading}\n{}\n\n{table}", week::UNITS);
     Failure::of_missed(missed)
 }
 
-/// How often a harvest is read.
+/// How often a harvest is read, and how instructions grow.
 fn run_reads() -> Result<(), Failure> {
-    let (table, missed) = steps::reads::measure()?;
-    print!("seed {}\n\n{table}", seed());
+    let (reads, mut missed) = steps::reads::measure()?;
+    let (growth, too_much) = steps::paid::growth()?;
+    missed.extend(too_much);
+    print!("seed {}\n\n{reads}\n{growth}", seed());
     Failure::of_missed(missed)
 }
 
@@ -219,8 +231,16 @@ fn measure_families(beside: Option<&Beside>) -> (Measured, Searched) {
     (measured(columns, beside), searched)
 }
 
+/// Whether a file can be written, before minutes are spent on what is to be written there.
+fn can_be_written(path: &Path) -> Result<(), String> {
+    let opened = OpenOptions::new().append(true).create(true).open(path);
+    opened.map_err(|error| format!("{}: {error}", path.display()))?;
+    Ok(())
+}
+
 /// Everything, with the whole table in a file if one is named.
 fn run_all(beside: Option<&Beside>, table: Option<&Path>) -> Result<(), String> {
+    table.map_or(Ok(()), can_be_written)?;
     let (heading, (measured, searched)) = headed(&rows::MOST.to_string(), || measure_families(beside));
     print!("{heading}\n\n{}", summary(&measured, &searched));
     if let Some(path) = table {
@@ -239,22 +259,27 @@ fn answer(asked: &Asked) -> Result<(), Failure> {
         return Ok(play(name, beside)?);
     }
     match asked.part {
-        Part::All => run_all(beside, asked.table.as_deref())?,
-        Part::Help => println!("{HELP}"),
-        Part::Instructions => run_instructions(beside)?,
-        Part::Calls => run_calls(),
-        Part::Linear => rest::compare_with_solver(),
-        Part::Reads => run_reads()?,
-        Part::Steps => run_steps()?,
-        Part::Twins => run_twins(),
-        Part::Week => run_week()?,
+        None => run_all(beside, asked.table.as_deref())?,
+        Some(Part::Help) => print!("{HELP}"),
+        Some(Part::Instructions) => run_instructions(beside)?,
+        Some(Part::Calls) => run_calls(),
+        Some(Part::Linear) => rest::compare_with_solver(),
+        Some(Part::Reads) => run_reads()?,
+        Some(Part::Steps) => run_steps()?,
+        Some(Part::Twins) => run_twins(),
+        Some(Part::Week) => run_week()?,
     }
     Ok(())
 }
 
+/// Does it, if the arguments and the seed can be read.
+fn run() -> Result<(), Failure> {
+    given_seed()?;
+    answer(&asked()?)
+}
+
 fn main() {
-    let answered = asked().map_err(Failure::from).and_then(|asked| answer(&asked));
-    if let Err(failure) = answered {
+    if let Err(failure) = run() {
         let (reason, code) = failure.told();
         eprintln!("{reason}");
         std::process::exit(code);

@@ -1,12 +1,14 @@
-//! What every request pays, in instructions: each step by calls of which one goes a step further than another. The calls
-//! are counted at half a week and at the same twice, so that the difference of both is what a frame takes.
+//! What every request pays, in instructions: each step by calls of which one goes a step further than another, and some
+//! calls by the library's functions. They are counted at half a week and at the same twice, so that the difference of both
+//! is what a frame takes.
 
 use super::twice::Kind::{self, Bounded, Constant, Refused, Sun};
 use crate::contenders::black_box;
 use crate::measured::{HALF_WEEK, WEEK};
 use crate::subject::{self, Function, Subject};
 use crate::table::{head, line};
-use crate::valgrind;
+use crate::valgrind::{self, Part};
+use crate::words::verdict;
 
 /// What is played for it.
 pub const PLAYED: &str = "paid";
@@ -61,17 +63,18 @@ const STEPS: [Step; 23] = [
     step("plan besides: one level", &[(PLAN, Constant), NO_SUM], &[(START, Constant), WITH_SUM]),
     step("plan besides: curve", &[(PLAN, Sun), NO_SUM], &[(START, Sun), WITH_SUM]),
     step("plan besides: curve with bounds", &[(PLAN, Bounded), NO_SUM], &[(START, Bounded), WITH_SUM]),
-    step("needed capacity besides: one level", &[(NEEDED, Constant), NO_SUM], &[(START, Constant), WITH_SUM]),
-    step("needed capacity besides: curve", &[(NEEDED, Sun), NO_SUM], &[(START, Sun), WITH_SUM]),
-    step("needed capacity besides: curve with bounds", &[(NEEDED, Bounded), NO_SUM], &[(START, Bounded), WITH_SUM]),
+    step("needed capacity besides: one level", &[(NEEDED, Constant), NO_SUM, NO_SUM], &[(START, Constant), WITH_SUM, WITH_SUM]),
+    step("needed capacity besides: curve", &[(NEEDED, Sun), NO_SUM, NO_SUM], &[(START, Sun), WITH_SUM, WITH_SUM]),
+    step("needed capacity besides: curve with bounds", &[(NEEDED, Bounded), NO_SUM, NO_SUM], &[(START, Bounded), WITH_SUM, WITH_SUM]),
     step("rest in all: curve with bounds", &[(REST, Bounded)], &[]),
     step("trace beside its refusals", &[(TRACE, Bounded)], &[(START, Refused(6))]),
     step("worth by three curves", &[(GRADE, Bounded)], &[]),
     step("file with bounds written", &[(WRITE, Bounded)], &[]),
     step("file with bounds read", &[(READ, Bounded)], &[]),
     step("listing in all: curve with bounds", &[(LISTING, Bounded)], &[]),
-    step("its text", &[(LISTING, Bounded), (START, Bounded), (START, Refused(6))],
-        &[(READ, Bounded), (PLAN, Bounded), (NEEDED, Bounded), (TRACE, Bounded), (GRADE, Bounded)]),
+    // beside reading, plan, needed capacity without its refusals and their sum, trace without its refusals, worth
+    step("its text", &[(LISTING, Bounded), (START, Bounded), WITH_SUM, (START, Refused(6))],
+        &[NO_SUM, (READ, Bounded), (PLAN, Bounded), (NEEDED, Bounded), (TRACE, Bounded), (GRADE, Bounded)]),
 ];
 
 /// Goes over the lists once.
@@ -101,10 +104,11 @@ fn function(name: &str) -> Function {
     subject::function(name)
 }
 
-/// Every call that a step names, once.
+/// Every call that is counted, once.
 fn counted() -> Vec<Counted> {
     let mut all = Vec::new();
-    for call in STEPS.iter().flat_map(|step| step.of.iter().chain(step.less)) {
+    let of_steps = STEPS.iter().flat_map(|step| step.of.iter().chain(step.less));
+    for call in of_steps.chain(&GROWING) {
         if !all.contains(call) {
             all.push(*call);
         }
@@ -122,54 +126,176 @@ pub fn play() {
     }
 }
 
+/// The calls whose growth is held, since a copy of a list that is gone over again and again is no load of the list.
+#[rustfmt::skip]
+const GROWING: [Counted; 10] = [
+    (PLAN, Constant), (PLAN, Sun), (PLAN, Bounded), (NEEDED, Constant), (NEEDED, Sun), (NEEDED, Bounded),
+    (REST, Constant), (REST, Sun), (REST, Bounded), (LISTING, Bounded),
+];
+
+/// The most that the instructions of a request may grow by to the same twice.
+const LIMIT: f64 = 2.6;
+
+/// The calls whose functions are told, each with its name, the one that takes most first.
+const BY_FUNCTION: [(&str, Counted); 3] = [
+    ("plan", (PLAN, Bounded)),
+    ("needed capacity", (NEEDED, Bounded)),
+    ("rest", (REST, Bounded)),
+];
+
 /// The instructions of every counted call at half a week and at a week.
-struct Counts(Vec<(Counted, [u64; 2])>);
+struct Counts(Vec<(Counted, [Part; 2])>);
+
+/// The cells of what is counted at half a week and at a week, and what that is for a frame.
+fn cells(counts: [i64; 2]) -> impl Iterator<Item = String> {
+    let for_each = (counts[1] - counts[0]) as f64 / (WEEK - HALF_WEEK) as f64;
+    let counts = counts.map(|count| count.to_string());
+    counts.into_iter().chain([format!("{for_each:.2}")])
+}
+
+/// The names of these columns.
+fn columns() -> impl Iterator<Item = String> {
+    [
+        format!("{HALF_WEEK} frames"),
+        format!("{WEEK} frames"),
+        "a frame".to_string(),
+    ]
+    .into_iter()
+}
+
+/// A function without its modules; where the C library clears or copies lists, that.
+fn short(function: &str) -> String {
+    if function.starts_with("__mem") {
+        return "lists cleared by the C library".to_string();
+    }
+    let is_module = |part: &&str| part.starts_with(|c: char| c.is_lowercase());
+    let modules = function.split("::").take_while(is_module).count();
+    let parts: Vec<&str> = function.split("::").collect();
+    let first = modules.min(parts.len() - 1);
+    format!("`{}`", parts[first..].join("::"))
+}
 
 impl Counts {
     /// Those of one function after the other.
-    fn of_library() -> Result<Counts, String> {
+    fn of_library(functions: &[&'static str]) -> Result<Counts, String> {
         let (calls, mut counts) = (counted(), Vec::new());
-        for name in FUNCTIONS {
-            let of_name: Vec<&Counted> = calls.iter().filter(|call| call.0 == name).collect();
-            let each = valgrind::instructions(name, PLAYED, None, 2 * of_name.len())?;
-            let pairs = each.chunks_exact(2).map(|pair| [pair[0], pair[1]]);
-            counts.extend(of_name.into_iter().copied().zip(pairs));
+        for &name in functions {
+            let of_name: Vec<Counted> = calls.iter().copied().filter(|call| call.0 == name).collect();
+            let mut each = valgrind::instructions(name, PLAYED, None, 2 * of_name.len())?.into_iter();
+            let mut next = || each.next().unwrap_or_default();
+            counts.extend(of_name.into_iter().map(|call| (call, [next(), next()])));
         }
         Ok(Counts(counts))
     }
 
-    /// What some calls take together at either number of frames.
-    fn sum(&self, calls: &[Counted]) -> [i64; 2] {
-        let chosen = self.0.iter().filter(|(call, _)| calls.contains(call));
-        chosen.fold([0; 2], |sum, (_, count)| {
-            [sum[0] + count[0] as i64, sum[1] + count[1] as i64]
-        })
+    /// A counted call at half a week and at a week.
+    fn of_call(&self, call: Counted) -> &[Part; 2] {
+        let found = self.0.iter().find(|(counted, _)| *counted == call);
+        &found.expect("every call of a step is counted").1
     }
 
-    /// A step's line: what it takes at either number of frames, and for a frame.
+    /// What some calls take together at either number of frames.
+    fn sum(&self, calls: &[Counted]) -> [i64; 2] {
+        let of_frames = |i: usize| calls.iter().map(|&call| self.of_call(call)[i].total as i64).sum();
+        [of_frames(0), of_frames(1)]
+    }
+
+    /// A step's line.
     fn line(&self, step: &Step) -> String {
         let (of, less) = (self.sum(step.of), self.sum(step.less));
         let counts = [of[0] - less[0], of[1] - less[1]];
-        let for_each = (counts[1] - counts[0]) as f64 / (WEEK - HALF_WEEK) as f64;
-        let counts = counts.map(|count| count.to_string());
-        line(
-            [step.name.to_string()]
+        line([step.name.to_string()].into_iter().chain(cells(counts)))
+    }
+
+    /// The lines of a call: what each function that the compiler left takes by itself.
+    fn lines_by_function(&self, name: &str, call: Counted) -> String {
+        let [half, whole] = self.of_call(call);
+        let of_function = |(function, count): &(String, u64)| {
+            let at_half = half.of_function(function);
+            let names = [name.to_string(), short(function)];
+            line(names.into_iter().chain(cells([at_half as i64, *count as i64])))
+        };
+        let mut functions: Vec<&(String, u64)> = whole.of_functions.iter().collect();
+        functions.sort_by_key(|(_, count)| std::cmp::Reverse(*count));
+        functions.into_iter().map(of_function).collect()
+    }
+
+    /// How the held calls grow, and which of them by more than the limit.
+    fn growth(&self) -> (String, Vec<String>) {
+        let names = ["instructions of", "requests"].map(String::from).into_iter();
+        let (mut text, mut missed) = (
+            head(names.chain(columns().take(2)).chain(["growth".to_string()])),
+            Vec::new(),
+        );
+        for call in GROWING {
+            let counts = self.sum(&[call]);
+            let growth = counts[1] as f64 / counts[0] as f64;
+            let names = [format!("`{}`", call.0), call.1.name().to_string()];
+            let judged = format!("{growth:.2}, at most {LIMIT} {}", verdict(growth <= LIMIT));
+            text += &line(names.into_iter().chain(cells(counts).take(2)).chain([judged]));
+            if LIMIT < growth {
+                missed.push(format!("{} of {}", call.0, call.1.name()));
+            }
+        }
+        (text, missed)
+    }
+
+    /// Both tables.
+    fn report(&self) -> String {
+        let steps: String = STEPS.iter().map(|step| self.line(step)).collect();
+        let calls = BY_FUNCTION.iter();
+        let functions: String = calls.map(|&(name, call)| self.lines_by_function(name, call)).collect();
+        let of_steps = head(["step".to_string()].into_iter().chain(columns()));
+        let of_functions = head(
+            ["call", "function by itself"]
+                .map(String::from)
                 .into_iter()
-                .chain(counts)
-                .chain([format!("{for_each:.2}")]),
-        )
+                .chain(columns()),
+        );
+        format!("{of_steps}{steps}\n{of_functions}{functions}")
     }
 }
 
-/// Counts all of it, and gives the table.
+/// Counts all of it, and gives the tables.
 pub fn measure() -> Result<String, String> {
-    let counts = Counts::of_library()?;
-    let names = [
-        "step".to_string(),
-        format!("{HALF_WEEK} frames"),
-        format!("{WEEK} frames"),
-        "a frame".to_string(),
-    ];
-    let lines: String = STEPS.iter().map(|step| counts.line(step)).collect();
-    Ok(format!("{}{lines}", head(names)))
+    Ok(Counts::of_library(&FUNCTIONS)?.report())
+}
+
+/// Counts what is held: the table, and the calls that grow by more than the limit.
+pub fn growth() -> Result<(String, Vec<String>), String> {
+    let counts = Counts::of_library(&[PLAN, NEEDED, REST, LISTING])?;
+    Ok(counts.growth())
+}
+
+#[cfg(test)]
+mod tests {
+    use super::*;
+
+    #[test]
+    fn functions_have_their_type_and_no_module() {
+        let names = [
+            "energy_plan",
+            "curve::levels::curve_levels",
+            "leveller::task::Task::plan_into",
+        ];
+        assert_eq!(
+            names.map(short),
+            ["`energy_plan`", "`curve_levels`", "`Task::plan_into`"]
+        );
+        assert_eq!(short("__memset_avx2_unaligned_erms"), "lists cleared by the C library");
+    }
+
+    #[test]
+    fn a_step_is_what_calls_take_less_others_each_as_often_as_it_is_named() {
+        let part = |total| Part {
+            total,
+            ..Part::default()
+        };
+        let counts = Counts(vec![
+            ((PLAN, Sun), [part(1000), part(2000)]),
+            ((START, Sun), [part(10), part(346)]),
+        ]);
+        const TWICE: Step = step("x", &[(PLAN, Sun)], &[(START, Sun), (START, Sun)]);
+        assert_eq!(counts.line(&TWICE), "| x | 980 | 1308 | 0.98 |\n");
+    }
 }

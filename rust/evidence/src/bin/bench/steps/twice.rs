@@ -49,6 +49,16 @@ fn refuse(number: u32, figures: &mut Figures, lists: &mut Lists) {
 }
 
 impl Kind {
+    /// Its name in tables.
+    pub fn name(self) -> &'static str {
+        match self {
+            Constant => "one level",
+            Sun => "curve",
+            Bounded => "curve with bounds",
+            Refused(_) => "refused",
+        }
+    }
+
     /// The number that its calls are answered by.
     pub fn number(self) -> u32 {
         match self {

@@ -12,6 +12,7 @@ use crate::words::{digits, verdict};
 use energy::{Energy, Figures, Linked, Rest, Shift};
 use evidence::lists::Lists;
 use hundreds::{Way, MOSTS, WAYS};
+use std::time::{Duration, Instant};
 
 /// What document 02 allows a hundred plans of a week, and what is aimed at for each call.
 const ALLOWED: f64 = 6.0;
@@ -20,8 +21,16 @@ const AIM: f64 = 2.6;
 /// How many requests of each number of frames there are.
 const HUNDRED: u64 = 100;
 
+/// What the times of the table are.
+pub const UNITS: &str =
+    "milliseconds of a hundred plans and of a hundred needed capacities; microseconds of each planning of a rest, and \
+     milliseconds of all those of a shift, one at each of its frames";
+
 /// The numbers of frames that are compared.
 const FRAMES: [usize; 2] = [HALF_WEEK, WEEK];
+
+/// How long a call is made before it is timed.
+const WARMED: Duration = Duration::from_secs(1);
 
 /// A request, its budgets, and its shift before each frame, recorded as planned.
 struct Planned {
@@ -119,8 +128,12 @@ struct Times {
 }
 
 impl Times {
-    /// Calls both hundreds in turn; the lower quartiles of the passes.
+    /// Calls both hundreds in turn; the lower quartiles of the passes, once the processor is at work.
     fn of(way: Way, call: &'static Call, hundreds: &mut [Vec<Planned>; 2]) -> Times {
+        let begin = Instant::now();
+        while begin.elapsed() < WARMED {
+            hundreds.iter_mut().flatten().for_each(call.run);
+        }
         let mut times = [Vec::new(), Vec::new()];
         for _ in 0..call.passes {
             for (hundred, times) in hundreds.iter_mut().zip(&mut times) {
@@ -156,7 +169,7 @@ impl Times {
             if self.call.for_each_frame {
                 let shift = micros / HUNDRED as f64;
                 format!(
-                    "{} us, {} ms in all",
+                    "{} us, {} ms a shift",
                     digits(shift / frames as f64),
                     digits(shift / 1e3)
                 )
@@ -231,7 +244,7 @@ mod tests {
     fn a_rest_grows_by_each_planning() {
         let (half, whole) = (100.0 * 336.0 * 6.0, 100.0 * 672.0 * 12.0);
         let (table, missed) = said(&CALLS[2], half, whole);
-        let line = "| anyhow | rest | 6.00 us, 2.02 ms in all | 12.0 us, 8.06 ms in all | 2.00 | 2.6 met |\n";
+        let line = "| anyhow | rest | 6.00 us, 2.02 ms a shift | 12.0 us, 8.06 ms a shift | 2.00 | 2.6 met |\n";
         assert!(table.ends_with(line), "{table}");
         assert!(missed.is_empty());
     }
