@@ -1,12 +1,9 @@
 //! The aim for growth: every family, summed over its capacities, from half a week to a week in instructions.
 
 use crate::contenders::{Call, CALLS};
-use crate::measured::{Measured, HALF_WEEK, WEEK};
+use crate::measured::{Measured, GROWTH, HALF_WEEK, WEEK};
 use crate::rows::{Figure, Kind, Row};
 use crate::words::{named, verdict, with_or_without};
-
-/// The most that instructions may grow by.
-const LIMIT: f64 = 2.6;
 
 /// A family's growth, if it has such rows.
 fn of_family(measured: &Measured, call: Call, kind: Kind, bounded: bool) -> Option<(f64, String)> {
@@ -19,7 +16,7 @@ fn rows_above(measured: &Measured, call: Call, bounded: bool) -> String {
     let rows = measured.rows(|row| row.bounded == bounded);
     let growth = |row: Row| Some((row, measured.growth(call, &[row])?));
     let growths: Vec<Figure> = rows.into_iter().filter_map(growth).collect();
-    named(&growths, LIMIT)
+    named(&growths, GROWTH)
 }
 
 /// The worst family of a call or all that miss the aim, and the single rows.
@@ -28,7 +25,7 @@ fn line(measured: &Measured, call: Call, bounded: bool) -> Option<String> {
     let mut families: Vec<(f64, String)> = Kind::all().into_iter().filter_map(family).collect();
     families.sort_by(|a, b| b.0.total_cmp(&a.0));
     families.first()?;
-    let misses = families.iter().filter(|(growth, _)| LIMIT < *growth).count();
+    let misses = families.iter().filter(|(growth, _)| GROWTH < *growth).count();
     let told = families.iter().take(misses.max(1));
     let told: Vec<String> = told.map(|(growth, name)| format!("{growth:.2} {name}")).collect();
     let rows = rows_above(measured, call, bounded);
@@ -50,5 +47,5 @@ pub fn report(measured: &Measured) -> String {
     if lines.is_empty() {
         return lines;
     }
-    format!("- growth from {HALF_WEEK} to {WEEK} frames at most {LIMIT} in every family in instructions\n{lines}")
+    format!("- growth from {HALF_WEEK} to {WEEK} frames at most {GROWTH} in every family in instructions\n{lines}")
 }

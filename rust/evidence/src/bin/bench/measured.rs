@@ -7,6 +7,10 @@ use evidence::families::FRAMES;
 /// The numbers of frames from which growth is measured and to which it leads.
 pub const HALF_WEEK: usize = FRAMES[1];
 pub const WEEK: usize = FRAMES[2];
+pub const BOTH: [usize; 2] = [HALF_WEEK, WEEK];
+
+/// The most that anything is to grow by.
+pub const GROWTH: f64 = 2.6;
 
 /// What is measured of a call.
 #[derive(Clone, Copy, PartialEq)]

@@ -4,7 +4,7 @@
 
 use super::twice::Kind::{self, Bounded, Constant, Refused, Sun};
 use crate::contenders::black_box;
-use crate::measured::{HALF_WEEK, WEEK};
+use crate::measured::{BOTH, GROWTH, HALF_WEEK, WEEK};
 use crate::subject::{self, Function, Subject};
 use crate::table::{head, line};
 use crate::valgrind::{self, Part};
@@ -119,7 +119,7 @@ fn counted() -> Vec<Counted> {
 /// Makes every counted call once, of half a week and then of a week.
 pub fn play() {
     for (name, kind) in counted() {
-        for frames in [HALF_WEEK, WEEK] {
+        for frames in BOTH {
             let number = (function(name).call)(&mut kind.subject(frames));
             assert_eq!(number, kind.number(), "{name}");
         }
@@ -132,9 +132,6 @@ const GROWING: [Counted; 10] = [
     (PLAN, Constant), (PLAN, Sun), (PLAN, Bounded), (NEEDED, Constant), (NEEDED, Sun), (NEEDED, Bounded),
     (REST, Constant), (REST, Sun), (REST, Bounded), (LISTING, Bounded),
 ];
-
-/// The most that the instructions of a request may grow by to the same twice.
-const LIMIT: f64 = 2.6;
 
 /// The calls whose functions are told, each with its name, the one that takes most first.
 const BY_FUNCTION: [(&str, Counted); 3] = [
@@ -231,9 +228,9 @@ impl Counts {
             let counts = self.sum(&[call]);
             let growth = counts[1] as f64 / counts[0] as f64;
             let names = [format!("`{}`", call.0), call.1.name().to_string()];
-            let judged = format!("{growth:.2}, at most {LIMIT} {}", verdict(growth <= LIMIT));
+            let judged = format!("{growth:.2}, at most {GROWTH} {}", verdict(growth <= GROWTH));
             text += &line(names.into_iter().chain(cells(counts).take(2)).chain([judged]));
-            if LIMIT < growth {
+            if GROWTH < growth {
                 missed.push(format!("{} of {}", call.0, call.1.name()));
             }
         }

@@ -2,7 +2,7 @@
 //! that tells every load. The list of a counted call lies where loads are told, and nothing else is stored there.
 
 use super::twice::Kind::{self, Bounded, Constant, Sun};
-use crate::measured::{HALF_WEEK, WEEK};
+use crate::measured::BOTH;
 use crate::table::{head, line};
 use crate::valgrind::{self, Loads, BEGIN};
 use crate::week::hundreds::{Way, WAYS};
@@ -12,9 +12,6 @@ use evidence::lists::Lists;
 
 /// What is played for it.
 pub const PLAYED: &str = "reads";
-
-/// The numbers of frames that are counted.
-const FRAMES: [usize; 2] = [HALF_WEEK, WEEK];
 
 /// A call that is counted, and how often it reads a harvest at most: docs/BENCHMARKS.md names the passes.
 struct Call {
@@ -166,7 +163,7 @@ fn play_one(row: usize, place: usize, figures: Figures, lists: &Lists, plan: &[u
 /// Makes every counted call once.
 pub fn play() {
     for (row, requests) in rows().into_iter().enumerate() {
-        for (figures, lists) in FRAMES.into_iter().flat_map(|frames| requests.of_frames(frames)) {
+        for (figures, lists) in BOTH.into_iter().flat_map(|frames| requests.of_frames(frames)) {
             let mut plan = vec![0; lists.count()];
             let answer = Linked.plan(figures, lists.frames(), &mut plan);
             answer.expect("an accepted request");
@@ -196,7 +193,7 @@ impl Counted {
 
     /// A call's line of a row, and whether it is met.
     fn line(&self, row: usize, place: usize, requests: Requests) -> (String, bool) {
-        let [half, whole] = FRAMES.map(|frames| self.reads(row, place, frames));
+        let [half, whole] = BOTH.map(|frames| self.reads(row, place, frames));
         let is_met = half.1 && whole.1;
         let Call { name, reads, .. } = CALLS[place];
         let cells = [
@@ -211,7 +208,7 @@ impl Counted {
 
     /// The table, and the calls that read a harvest too often.
     fn report(&self) -> (String, Vec<String>) {
-        let columns = FRAMES.map(|frames| format!("{frames} frames"));
+        let columns = BOTH.map(|frames| format!("{frames} frames"));
         let names = ["reads of a harvest by", "requests"].map(String::from).into_iter();
         let names = names.chain(columns).chain(["at most".to_string()]);
         let (mut text, mut missed) = (head(names), Vec::new());
@@ -237,6 +234,7 @@ pub fn measure() -> Result<(String, Vec<String>), String> {
 #[cfg(test)]
 mod tests {
     use super::*;
+    use crate::measured::HALF_WEEK;
 
     /// The places of the calls of the tests.
     const TRACE: usize = 5;

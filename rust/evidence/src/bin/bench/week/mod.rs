@@ -6,7 +6,7 @@ pub mod hundreds;
 
 use crate::cold::{lower_quartile, once};
 use crate::contenders::black_box;
-use crate::measured::{HALF_WEEK, WEEK};
+use crate::measured::{BOTH, GROWTH};
 use crate::table::{head, line};
 use crate::words::{digits, verdict};
 use energy::{Energy, Figures, Linked, Rest, Shift};
@@ -14,9 +14,8 @@ use evidence::lists::Lists;
 use hundreds::{Way, MOSTS, WAYS};
 use std::time::{Duration, Instant};
 
-/// What document 02 allows a hundred plans of a week, and what is aimed at for each call.
+/// What document 02 allows a hundred plans of a week.
 const ALLOWED: f64 = 6.0;
-const AIM: f64 = 2.6;
 
 /// How many requests of each number of frames there are.
 const HUNDRED: u64 = 100;
@@ -25,9 +24,6 @@ const HUNDRED: u64 = 100;
 pub const UNITS: &str =
     "milliseconds of a hundred plans and of a hundred needed capacities; microseconds of each planning of a rest, and \
      milliseconds of all those of a shift, one at each of its frames";
-
-/// The numbers of frames that are compared.
-const FRAMES: [usize; 2] = [HALF_WEEK, WEEK];
 
 /// How long a call is made before it is timed.
 const WARMED: Duration = Duration::from_secs(1);
@@ -40,7 +36,7 @@ struct Planned {
     shifts: Vec<Shift>,
 }
 
-/// A call of every request, how often all are called, and how many times that is for each frame of a request.
+/// A call of every request: in how many passes, whether it is made at each frame, and what it may grow by.
 struct Call {
     name: &'static str,
     run: fn(&mut Planned),
@@ -55,21 +51,21 @@ const CALLS: [Call; 3] = [
         run: plan,
         passes: 60,
         for_each_frame: false,
-        limits: &[ALLOWED, AIM],
+        limits: &[ALLOWED, GROWTH],
     },
     Call {
         name: "needed capacity",
         run: needed,
         passes: 60,
         for_each_frame: false,
-        limits: &[AIM],
+        limits: &[GROWTH],
     },
     Call {
         name: "rest",
         run: rests,
         passes: 9,
         for_each_frame: true,
-        limits: &[AIM],
+        limits: &[GROWTH],
     },
 ];
 
@@ -147,7 +143,7 @@ impl Times {
     /// How a call grows: where every frame has one, each of them.
     fn ratio(&self) -> f64 {
         let [half, whole] = self.micros;
-        let calls = if self.call.for_each_frame { FRAMES } else { [1, 1] };
+        let calls = if self.call.for_each_frame { BOTH } else { [1, 1] };
         (whole / calls[1] as f64) / (half / calls[0] as f64)
     }
 
@@ -177,7 +173,7 @@ impl Times {
                 format!("{} ms", digits(micros / 1e3))
             }
         };
-        let [half, whole] = [0, 1].map(|i| time((self.micros[i], FRAMES[i])));
+        let [half, whole] = [0, 1].map(|i| time((self.micros[i], BOTH[i])));
         let names = [self.way.name(), self.call.name].map(String::from);
         line(
             names
@@ -189,13 +185,13 @@ impl Times {
 
 /// The times of a way to draw requests.
 fn of_way(way: Way) -> Vec<Times> {
-    let mut hundreds = FRAMES.map(|frames| way.first(HUNDRED, frames).into_iter().map(Planned::new).collect());
+    let mut hundreds = BOTH.map(|frames| way.first(HUNDRED, frames).into_iter().map(Planned::new).collect());
     CALLS.iter().map(|call| Times::of(way, call, &mut hundreds)).collect()
 }
 
 /// The table, and the calls that miss a limit.
 fn report(times: &[Times]) -> (String, Vec<String>) {
-    let columns = FRAMES.map(|frames| format!("{frames} frames"));
+    let columns = BOTH.map(|frames| format!("{frames} frames"));
     let names = ["requests", "call"].map(String::from).into_iter().chain(columns);
     let names = names.chain(["ratio", "at most"].map(String::from));
     let lines: String = times.iter().map(Times::line).collect();
