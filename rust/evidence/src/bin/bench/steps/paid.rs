@@ -77,6 +77,20 @@ const STEPS: [Step; 23] = [
         &[NO_SUM, (READ, Bounded), (PLAN, Bounded), (NEEDED, Bounded), (TRACE, Bounded), (GRADE, Bounded)]),
 ];
 
+/// The calls whose growth is held, since a copy of a list that is gone over again and again is no load of the list.
+#[rustfmt::skip]
+const GROWING: [Counted; 10] = [
+    (PLAN, Constant), (PLAN, Sun), (PLAN, Bounded), (NEEDED, Constant), (NEEDED, Sun), (NEEDED, Bounded),
+    (REST, Constant), (REST, Sun), (REST, Bounded), (LISTING, Bounded),
+];
+
+/// The calls of which each function is told, and their names.
+const BY_FUNCTION: [(&str, Counted); 3] = [
+    ("plan", (PLAN, Bounded)),
+    ("needed capacity", (NEEDED, Bounded)),
+    ("rest", (REST, Bounded)),
+];
+
 /// Goes over the lists once.
 #[no_mangle]
 #[inline(never)]
@@ -125,20 +139,6 @@ pub fn play() {
         }
     }
 }
-
-/// The calls whose growth is held, since a copy of a list that is gone over again and again is no load of the list.
-#[rustfmt::skip]
-const GROWING: [Counted; 10] = [
-    (PLAN, Constant), (PLAN, Sun), (PLAN, Bounded), (NEEDED, Constant), (NEEDED, Sun), (NEEDED, Bounded),
-    (REST, Constant), (REST, Sun), (REST, Bounded), (LISTING, Bounded),
-];
-
-/// The calls whose functions are told, each with its name, the one that takes most first.
-const BY_FUNCTION: [(&str, Counted); 3] = [
-    ("plan", (PLAN, Bounded)),
-    ("needed capacity", (NEEDED, Bounded)),
-    ("rest", (REST, Bounded)),
-];
 
 /// The instructions of every counted call at half a week and at a week.
 struct Counts(Vec<(Counted, [Part; 2])>);
@@ -204,7 +204,7 @@ impl Counts {
         line([step.name.to_string()].into_iter().chain(cells(counts)))
     }
 
-    /// The lines of a call: what each function that the compiler left takes by itself.
+    /// The lines of a call: what each function that the compiler left takes by itself, the greatest first.
     fn lines_by_function(&self, name: &str, call: Counted) -> String {
         let [half, whole] = self.of_call(call);
         let of_function = |(function, count): &(String, u64)| {

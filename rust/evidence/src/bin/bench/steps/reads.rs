@@ -6,8 +6,9 @@ use crate::measured::BOTH;
 use crate::table::{head, line};
 use crate::valgrind::{self, Loads, BEGIN};
 use crate::week::hundreds::{Way, WAYS};
+use crate::week::shifts;
 use crate::words::verdict;
-use energy::{Energy, Figures, Frames, Linked, Shift, MAX_FILE_BYTES, MAX_FRAMES};
+use energy::{Energy, Figures, Frames, Linked, MAX_FILE_BYTES, MAX_FRAMES};
 use evidence::lists::Lists;
 
 /// What is played for it.
@@ -54,19 +55,10 @@ struct Lent<'a> {
 }
 
 impl Lent<'_> {
-    /// The shift of the request, recorded as planned up to a frame, from the list that is not counted.
-    fn shift(&self, recorded: usize) -> Shift {
-        let first = Linked.shift_start(self.figures, self.other);
-        let frames = self.other.harvest.iter().zip(self.plan).take(recorded);
-        frames.fold(first.expect("an accepted request"), |shift, (&harvest, &used)| {
-            let next = Linked.shift_record(shift, harvest, used);
-            next.expect("a budget of the plan")
-        })
-    }
-
-    /// Plans the rest from a frame on.
+    /// Plans the rest from a frame on, of a shift that was recorded from the other list.
     fn plan_rest(&self, recorded: usize) {
-        let answer = Linked.shift_plan_rest(self.shift(recorded), self.counted, &mut self.plan.to_vec());
+        let shift = shifts(self.figures, self.other, self.plan)[recorded];
+        let answer = Linked.shift_plan_rest(shift, self.counted, &mut self.plan.to_vec());
         answer.expect("a rest to plan");
     }
 }

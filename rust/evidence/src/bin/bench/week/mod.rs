@@ -9,7 +9,7 @@ use crate::contenders::black_box;
 use crate::measured::{BOTH, GROWTH};
 use crate::table::{head, line};
 use crate::words::{digits, verdict};
-use energy::{Energy, Figures, Linked, Rest, Shift};
+use energy::{Energy, Figures, Frames, Linked, Rest, Shift};
 use evidence::lists::Lists;
 use hundreds::{Way, MOSTS, WAYS};
 use std::time::{Duration, Instant};
@@ -92,10 +92,10 @@ fn rests(planned: &mut Planned) {
 }
 
 /// The shift before each of its frames, where all are recorded as planned.
-fn shifts(figures: Figures, lists: &Lists, budgets: &[u32]) -> Vec<Shift> {
-    let mut shift = Linked.shift_start(figures, lists.frames()).expect("a plan is there");
+pub fn shifts(figures: Figures, frames: Frames, plan: &[u32]) -> Vec<Shift> {
+    let mut shift = Linked.shift_start(figures, frames).expect("a plan is there");
     let mut shifts = Vec::new();
-    for (&harvest, &used) in lists.harvest.iter().zip(budgets) {
+    for (&harvest, &used) in frames.harvest.iter().zip(plan) {
         shifts.push(shift);
         shift = Linked.shift_record(shift, harvest, used).expect("a budget of the plan");
     }
@@ -108,7 +108,7 @@ impl Planned {
         let answer = Linked.plan(figures, lists.frames(), &mut budgets);
         answer.expect("an accepted request");
         Planned {
-            shifts: shifts(figures, &lists, &budgets),
+            shifts: shifts(figures, lists.frames(), &budgets),
             figures,
             lists,
             budgets,
