@@ -35,7 +35,7 @@
  * request has shown, it would search every budget, which takes a twin of the planner up to 20 ms (docs/BENCHMARKS.md,
  * "Calls").
  * The archive is for x86-64-v2 processors and the System V calling convention, as on Linux. It is position-independent,
- * has nothing that can be written, and needs memcpy and memset from elsewhere and nothing else (docs/C.md, "Machines").
+ * has nothing that can be written, and needs memset from elsewhere and nothing else (docs/C.md, "Machines").
  */
 #ifndef ENERGY_H
 #define ENERGY_H

@@ -48,14 +48,19 @@ fn list(rt: &impl Print, budgets: &[u32]) -> io::Result<()> {
     rt.print("\n")
 }
 
+// Writes a figure and what follows it, each by itself: a write that fails leaves all figures before it.
+fn put(rt: &impl Print, figure: u64, end: &str) -> io::Result<()> {
+    print!(rt; "{figure}{end}")
+}
+
 // The frame's line.
 fn line(rt: &impl Print, typed: Typed, shift: Shift) -> io::Result<()> {
-    let Typed { harvest, used } = typed;
     let now = shift.now;
-    println!(rt;
-        "{} {harvest} {used} {} {}",
-        now.recorded, now.charge, now.totals.lost
-    )
+    put(rt, now.recorded as u64, " ")?;
+    put(rt, typed.harvest as u64, " ")?;
+    put(rt, typed.used as u64, " ")?;
+    put(rt, now.charge as u64, " ")?;
+    put(rt, now.totals.lost, "\n")
 }
 
 // One frame: the rest planned, the frame recorded, and the shift as it stands after it.
@@ -89,7 +94,9 @@ fn run(
         shift = frame(rt, shift, outlook, *harvest, budgets)?;
     }
     let totals = shift.now.totals;
-    println!(rt; "{} {} {}", totals.harvested, totals.used, totals.lost)?;
+    put(rt, totals.harvested, " ")?;
+    put(rt, totals.used, " ")?;
+    put(rt, totals.lost, "\n")?;
     Ok(())
 }
 

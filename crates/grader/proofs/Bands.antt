@@ -20,12 +20,12 @@ entry f (suc (suc zero)) j h = refl
 entry f (suc (suc (suc c))) j h = let b : ⊥ = omega arith in absurd b
 
 -- four edges and five gains
-edges_four : (c : ℕ) → length (house_curve c).edges ≡ 4
+pub edges_four : (c : ℕ) → length (house_curve c).edges ≡ 4
 edges_four zero = refl
 edges_four (suc zero) = refl
 edges_four (suc (suc c)) = refl
 
-gains_five : (c : ℕ) → length (house_curve c).gains ≡ 5
+pub gains_five : (c : ℕ) → length (house_curve c).gains ≡ 5
 gains_five zero = refl
 gains_five (suc zero) = refl
 gains_five (suc (suc c)) = refl

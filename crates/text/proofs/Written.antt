@@ -1,12 +1,12 @@
 -- Text in a lent list: a byte finds room or none, pieces go one behind the other, and a loop writes what is left of a
 -- text.
 use mathlib.Core.Path.{◌≡◌, refl, sym, ap, subst, ◌∙◌}
-use mathlib.Core.List.{List, [], ◌++◌, append_assoc, append-nil}
-use Prim.Native.Nat.{ℕ, ◌+◌, ◌-◌, ◌≤◌, min}
+use mathlib.Core.List.{List, [], ◌∷◌, ◌++◌, append_assoc, append-nil}
+use Prim.Native.Nat.{ℕ, ◌+◌, ◌-◌, ◌≤◌, ◌<◌, min}
 use native.Mathlib.Omega.{arith}
-use lib.ListN.{length, take, drop, length-append, length-take, length-drop}
+use lib.ListN.{length, set, take, drop, length-append, length-take, length-drop}
 use native.Mathlib.Decide.{dec_le}
-use Rattle.std.proofs.lemmas.List.{take_min, drop_at, drop-drop, take-append-le}
+use Rattle.std.proofs.lemmas.List.{take_min, drop_at, drop-drop, take-append-le, take-append-drop, take-set, drop-set}
 use Rattle.std.proofs.Math.Seq.{take-nil, take_all, take_at, take-append-add}
 use Rattle.model.specs.Lent.{over}
 use Rattle.text.specs.Wrote.{Wrote, Puts}
@@ -90,6 +90,24 @@ part_put x y o n m k e f g = record { behind = λ t z w. whole t z w }
           count = omega (arith, length-append t x);
         }
 
+-- ---- a byte written on
+
+-- a byte that finds room
+pub byte_put : (o : List ℕ) (n b : ℕ) → n < length o → Puts (b ∷ []) o n (set o n b) (n + 1)
+byte_put o n b l =
+    let e : take n o ++ (b ∷ drop 1 (drop n o)) ≡ set o n b =
+    ap (λ (t : List ℕ). take n o ++ (b ∷ t)) (drop-drop 1 n o)
+    ∙ (ap (λ (t : List ℕ). t ++ (b ∷ drop (n + 1) o)) (sym (take-set o n b))
+    ∙ (ap (λ (t : List ℕ). take n (set o n b) ++ t) (sym (drop-set o n b l)) ∙ take-append-drop n (set o n b))) in
+    subst (λ (t : List ℕ). Puts (b ∷ []) o n t (n + 1)) e (part_put (b ∷ []) (b ∷ []) o n 1 1 (omega arith) refl refl)
+
+-- a byte that finds none
+pub byte_left_out : (o : List ℕ) (n b : ℕ) → length o ≤ n → Puts (b ∷ []) o n o n
+byte_left_out o n b l =
+    let z : n + 0 ≡ n = omega arith in
+    let p = part_put (b ∷ []) [] o n 0 0 (omega arith) refl refl in
+    rw (z, take-append-drop n o) at p
+
 -- ---- pieces one behind the other
 
 -- a text written at the front
@@ -126,18 +144,25 @@ pub adds_same : {x y : List ℕ} {p q : Page} → x ≡ y → Adds x p q → Add
 adds_same {p = p} {q} e a = subst (λ (t : List ℕ). Adds t p q) e a
 
 pub adds_then : {x y : List ℕ} {p q r : Page} → Adds x p q → Adds y q r → Adds (x ++ y) p r
-adds_then a b = record { same_list = b.same_list ∙ a.same_list; puts = puts_then a.puts b.puts }
+adds_then a b =
+    record { same_list = b.same_list ∙ a.same_list; as_long = b.as_long ∙ a.as_long; puts = puts_then a.puts b.puts }
 
 -- of the text x, from the page p on, all is written but y, from the page q on, of the same lent list
 pub record Left (x : List ℕ) (p : Page) (y : List ℕ) (q : Page) : Type 0 where
   pub same_list : q.out.ghost_name ≡ p.out.ghost_name
+  pub as_long : length q.out.now ≡ length p.out.now
   pub leaves : Leaves x p.out.now p.at y q.out.now q.at
 
 module _ {x y : List ℕ} {p q : Page} where
   -- its next piece written
   pub left_less : {a z : List ℕ} {r : Page} → Left x p y q → y ≡ a ++ z → Adds a q r → Left x p z r
-  left_less f e b = record { same_list = b.same_list ∙ f.same_list; leaves = leaves_less f.leaves e b.puts }
+  left_less f e b =
+      record {
+        same_list = b.same_list ∙ f.same_list;
+        as_long = b.as_long ∙ f.as_long;
+        leaves = leaves_less f.leaves e b.puts;
+      }
 
   -- nothing left: the text is written
   pub left_none : Left x p y q → y ≡ [] → Adds x p q
-  left_none f e = record { same_list = f.same_list; puts = leaves_none f.leaves e }
+  left_none f e = record { same_list = f.same_list; as_long = f.as_long; puts = leaves_none f.leaves e }

@@ -1,7 +1,7 @@
 // Text written into a lent list, piece by piece, as much of it as there is room for.
 #![tactic(auto)]
 
-ghost use Rattle.std.specs.Prelude.{◌≡◌, ◌≤◌, length};
+ghost use Rattle.std.specs.Prelude.{◌≡◌, [], ◌∷◌};
 ghost use Rattle.text.specs.Decimal.{decimal};
 ghost use Rattle.text.specs.Line.{line_of};
 
@@ -32,17 +32,24 @@ impl<'a> Page<'a> {
         self.at
     }
 
-    // Writes a text on, as much of it as there is room for.
+    // Writes a byte on, if there is room for it.
+    fn put_byte(&mut self, byte: u8)
+        ensures { Adds (byte ∷ []) self.old self.new }
+    {
+        if self.at < self.out.len() {
+            self.out[self.at] = byte;
+            self.at += 1;
+        }
+    }
+
+    // Writes a text on, as much of it as there is room for. Byte by byte: `copy_from_slice` is the C library's memcpy,
+    // which nothing else here wants.
     fn put(&mut self, text: &[u8])
         ensures { Adds text.now self.old self.new }
     {
-        if self.out.len() <= self.at {
-            return;
+        for &byte in text {
+            self.put_byte(byte);
         }
-        let n = text.len().min(self.out.len() - self.at);
-        let end = self.at + n;
-        self.out[self.at..end].copy_from_slice(&text[..n]);
-        self.at = end;
     }
 
     // Writes a number on in decimal digits.
@@ -67,7 +74,7 @@ impl<'a> Page<'a> {
                     continue;
                 }
             }
-            self.put(&[byte]);
+            self.put_byte(byte);
         }
     }
 }

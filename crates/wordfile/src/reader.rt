@@ -68,18 +68,6 @@ fn value_at(file: &[u8], i: usize) -> u32
     rest::<30>(nth(file, i))
 }
 
-// The least at word i of a file, 0 where there is none, and the place behind it.
-#[tactic(auto, using(words::proofs::Bytes::words_length))]
-fn least_at(file: &[u8], i: usize) -> (u32, usize)
-    ensures least { result.0 ≡ bound_at least_mark 0 (drop i (words_of file.now)) }
-    ensures behind { drop result.1 (words_of file.now) ≡ past_least (drop i (words_of file.now)) }
-{
-    match get(file, i) {
-        Some(Word::Least(least)) => (least, i + 1),
-        _ => (0, i),
-    }
-}
-
 // The most at word i of a file, no upper end where there is none.
 fn most_at(file: &[u8], i: usize) -> u32
     ensures { result ≡ bound_at most_mark no_upper_end (drop i (words_of file.now)) }
@@ -90,6 +78,19 @@ fn most_at(file: &[u8], i: usize) -> u32
     }
 }
 
+// The least and the most at word i of a file; 0 and no upper end where there is none.
+#[tactic(auto, using(words::proofs::Bytes::words_length))]
+fn bounds_at(file: &[u8], i: usize) -> (u32, u32)
+    ensures least { result.0 ≡ bound_at least_mark 0 (drop i (words_of file.now)) }
+    ensures most { result.1 ≡ bound_at most_mark no_upper_end (past_least (drop i (words_of file.now))) }
+{
+    match get(file, i) {
+        Some(Word::Least(least)) => (least, most_at(file, i + 1)),
+        Some(Word::Most(most)) => (0, most),
+        _ => (0, NO_UPPER_END),
+    }
+}
+
 // The frame with harvest word i of a file.
 fn frame_at(file: &[u8], i: usize) -> Frame
     requires { i < length file.now / 4 }
@@ -97,11 +98,11 @@ fn frame_at(file: &[u8], i: usize) -> Frame
     ensures least { result.least ≡ says_at least_at (words_of file.now) i }
     ensures most { result.most ≡ says_at most_at (words_of file.now) i }
 {
-    let (least, behind) = least_at(file, i + 1);
+    let (least, most) = bounds_at(file, i + 1);
     Frame {
         harvest: value_at(file, i),
         least,
-        most: most_at(file, behind),
+        most,
     }
 }
 

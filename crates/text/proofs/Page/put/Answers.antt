@@ -1,11 +1,17 @@
--- As much of the text as there is room for stands in the place behind what was written.
-use Rattle.std.proofs.Common.{refl, arith}
-use Rattle.text.proofs.Written.{part_put}
+-- Each round writes the first byte of what is left of the text.
+use Rattle.std.proofs.Common.{add-one, arith}
+use lib.Seq.{drop-cons}
+use lib.ListN.{drop_of_length-le}
+use Rattle.text.proofs.Written as law
 use Rattle.text.proofs.Page.put.Goals as goal
+
+pub loop-byte-preserved : goal.loop-byte-preserved
+loop-byte-preserved c =
+    let s = c.args.text.now in
+    let l = c.loop-byte in
+    law.left_less l.invariant (rw (add-one l.byte-index) (drop-cons s l.byte-index 0 (omega arith))) c.put_byte.ensures
 
 pub returns : goal.returns
 returns c =
-    record {
-      same_list = refl;
-      puts = part_put c.args.text.now _ c.args.self.now.out.now c.args.self.now.at _ _ c.min-n.ensures c.copy_from_slice.ensures.after (omega arith);
-    }
+    let l = c.loop-byte in
+    law.left_none l.invariant (drop_of_length-le c.args.text.now {i = l.byte-index} (omega arith))

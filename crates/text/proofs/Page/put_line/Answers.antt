@@ -22,7 +22,7 @@ loop-byte-preserved c =
       | then-byte-eq35+in_default w ↦ let h = w.in_default.ensures.steps in
           (inr h.0, ap (λ f. f.rest.now) (w.left-is ∙ h.1))
       | else-byte-eq35 w ↦ (inl w.if-byte-eq35.false, ap (λ f. f.rest.now) w.left-is)
-    ])) c.put.ensures
+    ])) c.put_byte.ensures
 
 pub returns : goal.returns
 returns c =
