@@ -48,7 +48,7 @@ fn list(rt: &impl Print, budgets: &[u32]) -> io::Result<()> {
     rt.print("\n")
 }
 
-// Writes a figure and what follows it, each by itself: a write that fails leaves all figures before it.
+// Writes a figure with what follows it, in a write of its own: one that fails leaves all figures before it.
 fn put(rt: &impl Print, figure: u64, end: &str) -> io::Result<()> {
     print!(rt; "{figure}{end}")
 }

@@ -13,14 +13,19 @@ use lib.ListN.{length, get_or, set, drop, length-drop, length-set, drop_of_lengt
 use lib.Seq.{drop-cons, drop-drop, get_or-drop, paste, paste-suc}
 use Rattle.model.specs.Choice.{pick}
 use Rattle.model.specs.Lent.{over}
+use Rattle.model.specs.Limits.{no_upper_end}
 use Rattle.words.specs.Words.{kind_of, mark_of, amount_in}
 use Rattle.words.proofs.Lists.{pasted_all}
-use Rattle.wordfile.specs.File.{bound_at, past_least, says_at, each_frame}
+use Rattle.wordfile.specs.File.{bound_at, bound_in, past_least, says_at, each_frame}
+use Rattle.std.specs.Prelude.{Option, Some, None}
+use Rattle.std.specs.Option.{is_some, unwrap_or}
+use Rattle.std.specs.Bool.{then_some}
+use mir.Val.{bool_byte}
 
 -- ---- the bounds behind a harvest word
 
 -- the front of the words from place i on
-front : (ws : List ℕ) (i : ℕ) → i < length ws → {w : ℕ} → w ≡ get_or ws i 0 → drop i ws ≡ w ∷ drop (i + 1) ws
+pub front : (ws : List ℕ) (i : ℕ) → i < length ws → {w : ℕ} → w ≡ get_or ws i 0 → drop i ws ≡ w ∷ drop (i + 1) ws
 front ws i l e = rw (e, add-one i) (drop-cons ws i 0 l)
 
 -- a word at the front with that mark, or with another
@@ -35,6 +40,55 @@ past_is w ws e = rw (eq-eqb (mark_of w) 4 e)
 
 pub past_not : (w : ℕ) (ws : List ℕ) → (mark_of w ≡ 4 → ⊥) → past_least (w ∷ ws) ≡ w ∷ ws
 past_not w ws e = rw (ne_eqb (mark_of w) 4 e)
+
+-- ---- the bounds behind a harvest word, one after the other
+
+-- how many words a bound is
+abbrev pub bounds : Option ℕ → ℕ
+bounds None = 0
+bounds (Some a) = 1
+
+-- as the code counts them
+pub bounds_are : (r : Option ℕ) → bool_byte (is_some r) ≡ bounds r
+bounds_are None = refl
+bounds_are (Some a) = refl
+
+-- a bound by a test of its mark
+pub then_in : (t : Bool) (x : ℕ) → then_some t x ≡ pick t (Some x) None
+then_in true x = refl
+then_in false x = refl
+
+-- behind the last word there is none
+pub beyond : (m : ℕ) (ws : List ℕ) (i : ℕ) → length ws ≤ i → bound_in m (drop i ws) ≡ None
+beyond m ws i l = let e : drop i ws ≡ [] = drop_of_length-le ws {i = i} l in rw e refl
+
+-- its amount, or what stands for an absent one
+pub in_at : (m d : ℕ) (ws : List ℕ) → unwrap_or (bound_in m ws) d ≡ bound_at m d ws
+in_at m d [] = refl
+in_at m d (w ∷ ws) = go (eqb (mark_of w) m)
+  where
+    go : (t : Bool) → unwrap_or (pick t (Some (amount_in w)) None) d ≡ pick t (amount_in w) d
+    go true = refl
+    go false = refl
+
+-- the words behind it
+pub in_past : (ws : List ℕ) → drop (bounds (bound_in 4 ws)) ws ≡ past_least ws
+in_past [] = refl
+in_past (w ∷ ws) = go (eqb (mark_of w) 4)
+  where
+    go : (t : Bool) → drop (bounds (pick t (Some (amount_in w)) None)) (w ∷ ws) ≡ pick t ws (w ∷ ws)
+    go true = refl
+    go false = refl
+
+-- none of either mark
+pub no_least : (ws : List ℕ) → bound_in 4 ws ≡ None → 0 ≡ bound_at 4 0 ws
+no_least ws e = rw e at (in_at 4 0 ws)
+
+pub no_most : (ws : List ℕ) → bound_in 4 ws ≡ None → bound_in 5 ws ≡ None →
+    no_upper_end ≡ bound_at 5 no_upper_end (past_least ws)
+no_most ws e o =
+    let p : ws ≡ past_least ws = rw e at (in_past ws) in
+    (rw o at (in_at 5 no_upper_end ws)) ∙ ap (bound_at 5 no_upper_end) p
 
 -- ---- what a word adds
 

@@ -1,5 +1,5 @@
 -- The request in a word file, what its reader refuses, the file of a request, and what its writer refuses.
-use Rattle.std.specs.Prelude.{◌≡◌, Bool, List, [], ◌∷◌, ◌++◌, ℕ, ◌+◌, ◌*◌, ◌^◌, ◌<◌, eqb, ltb, length, get_or, drop}
+use Rattle.std.specs.Prelude.{◌≡◌, Bool, List, [], ◌∷◌, ◌++◌, ℕ, ◌+◌, ◌*◌, ◌^◌, ◌<◌, eqb, ltb, length, get_or, drop, Option, Some, None}
 use Rattle.model.specs.declared.Figures.{Figures}
 use Rattle.model.specs.Refusals.{Refusal}
 use Rattle.model.specs.Choice.{pick}
@@ -17,6 +17,11 @@ use Rattle.wordfile.specs.Form.{Form, Closed, Broken}
 abbrev pub bound_at : ℕ → ℕ → List ℕ → ℕ
 bound_at mark d [] = d
 bound_at mark d (w ∷ ws) = pick (eqb (mark_of w) mark) (amount_in w) d
+
+-- the same amount, if there is one
+abbrev pub bound_in : ℕ → List ℕ → Option ℕ
+bound_in mark [] = None
+bound_in mark (w ∷ ws) = pick (eqb (mark_of w) mark) (Some (amount_in w)) None
 
 -- the words behind a least at their front
 abbrev pub past_least : List ℕ → List ℕ

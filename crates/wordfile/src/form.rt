@@ -10,9 +10,9 @@ use words::{Word, nth};
 
 // The marks of bounds: a least, a most; and a mark above both. Numbers, and no enum: the definitions' machine counts
 // marks, and `State` is the very record of its definition, which an enum here would change.
-const LEAST: u32 = 4;
+pub const LEAST: u32 = 4;
 
-const MOST: u32 = 5;
+pub const MOST: u32 = 5;
 
 const NO_MARK: u32 = 6;
 

@@ -1,22 +1,21 @@
 // Reading a word file: what is refused is known before anything is written.
-ghost use Rattle.std.specs.Prelude.{◌≡◌, ◌+◌, ◌/◌, ◌<◌, ◌≤◌, drop, length, set, get_or};
+ghost use Rattle.std.specs.Prelude.{◌≡◌, false, None, ℕ, ◌+◌, ◌/◌, ◌<◌, ◌≤◌, drop, length, set, get_or};
 ghost use Rattle.model.specs.Answer.{refused};
 ghost use Rattle.model.specs.Lent.{over};
-ghost use Rattle.model.specs.Limits.{no_upper_end};
 ghost use Rattle.model.specs.Refusals.{first_of};
-ghost use Rattle.words.specs.Words.{value_in, words_of, least_mark, most_mark};
+ghost use Rattle.words.specs.Words.{value_in, words_of};
 ghost use Rattle.wordfile.specs.Form.{figure_count};
-ghost use Rattle.wordfile.specs.File.{bound_at, past_least, harvest_at, least_at, most_at, says_at};
+ghost use Rattle.wordfile.specs.File.{bound_in, harvest_at, least_at, most_at, says_at};
 ghost use Rattle.wordfile.specs.File.{figures_in, harvests_in, leasts_in, mosts_in};
 ghost use Rattle.wordfile.specs.File.{read_refusal, room_refusals};
 ghost use Rattle.wordfile.specs.Says.{ReadSays, SameRoom};
 
-use crate::form::scan;
+use crate::form::{LEAST, MOST, scan};
 use crate::frame::Frame;
 use model::limits::{MAX_FILE_BYTES, MAX_FRAMES, NO_UPPER_END};
 use model::{Figures, Refusal};
 use request::check_that;
-use words::{Word, get, nth, rest};
+use words::{Word, nth, rest, tag};
 
 // The figures of a request, and the number of its frames.
 #[repr(C)]
@@ -68,27 +67,23 @@ fn value_at(file: &[u8], i: usize) -> u32
     rest::<30>(nth(file, i))
 }
 
-// The most at word i of a file, no upper end where there is none.
-fn most_at(file: &[u8], i: usize) -> u32
-    ensures { result ≡ bound_at most_mark no_upper_end (drop i (words_of file.now)) }
+// Whether word i of a file is a bound.
+fn is_bound(file: &[u8], i: usize) -> bool
+    ensures { result ≡ false → (mark : ℕ) → mark / 2 ≡ 2 → bound_in mark (drop i (words_of file.now)) ≡ None }
 {
-    match get(file, i) {
-        Some(Word::Most(most)) => most,
-        _ => NO_UPPER_END,
-    }
+    i < file.len() / 4 && tag::<30>(nth(file, i)) == 2
 }
 
-// The least and the most at word i of a file; 0 and no upper end where there is none.
-#[tactic(auto, using(words::proofs::Bytes::words_length))]
-fn bounds_at(file: &[u8], i: usize) -> (u32, u32)
-    ensures least { result.0 ≡ bound_at least_mark 0 (drop i (words_of file.now)) }
-    ensures most { result.1 ≡ bound_at most_mark no_upper_end (past_least (drop i (words_of file.now))) }
+// The amount of the bound with this mark at word i of a file, if there is one. By its mark and not as a `Word`: the
+// compiler then chooses between values, where it would jump for a match, and which bounds come is chance.
+fn bound_at(file: &[u8], i: usize, mark: u32) -> Option<u32>
+    ensures { result ≡ bound_in mark (drop i (words_of file.now)) }
 {
-    match get(file, i) {
-        Some(Word::Least(least)) => (least, most_at(file, i + 1)),
-        Some(Word::Most(most)) => (0, most),
-        _ => (0, NO_UPPER_END),
+    if i >= file.len() / 4 {
+        return None;
     }
+    let bits = nth(file, i);
+    (tag::<29>(bits) == mark).then_some(rest::<29>(bits))
 }
 
 // The frame with harvest word i of a file.
@@ -98,11 +93,21 @@ fn frame_at(file: &[u8], i: usize) -> Frame
     ensures least { result.least ≡ says_at least_at (words_of file.now) i }
     ensures most { result.most ≡ says_at most_at (words_of file.now) i }
 {
-    let (least, most) = bounds_at(file, i + 1);
+    let harvest = value_at(file, i);
+    // many files have no bounds, and a jump for a frame without any is foretold in them
+    if !is_bound(file, i + 1) {
+        return Frame {
+            harvest,
+            least: 0,
+            most: NO_UPPER_END,
+        };
+    }
+    let least = bound_at(file, i + 1, LEAST);
+    let most = bound_at(file, i + 1 + usize::from(least.is_some()), MOST);
     Frame {
-        harvest: value_at(file, i),
-        least,
-        most,
+        harvest,
+        least: least.unwrap_or(0),
+        most: most.unwrap_or(NO_UPPER_END),
     }
 }
 

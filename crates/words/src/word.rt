@@ -19,9 +19,12 @@ impl From<u32> for Word {
     ghost from_gives = { λ bits word. Spells word bits };
 
     fn from(bits: u32) -> Word {
+        // most words are harvests, so these are looked for first
+        if tag::<30>(bits) == 1 {
+            return Word::Harvest(rest::<30>(bits));
+        }
         match tag::<29>(bits) {
             0 | 1 => Word::Figure(rest::<30>(bits)),
-            2 | 3 => Word::Harvest(rest::<30>(bits)),
             4 => Word::Least(rest::<29>(bits)),
             5 => Word::Most(rest::<29>(bits)),
             _ => Word::End(rest::<30>(bits)),
