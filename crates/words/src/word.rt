@@ -19,7 +19,7 @@ impl From<u32> for Word {
     ghost from_gives = { λ bits word. Spells word bits };
 
     fn from(bits: u32) -> Word {
-        // most words are harvests, so these are looked for first
+        // no kind of word comes more often than a harvest, so these are looked for first
         if tag::<30>(bits) == 1 {
             return Word::Harvest(rest::<30>(bits));
         }
